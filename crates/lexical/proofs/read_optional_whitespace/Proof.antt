@@ -1,0 +1,58 @@
+-- The invariant: from here the run of the class ends where it ends from the start. Assumes nothing.
+use borrow.Author.Needs.{needs}
+use mathlib.Core.Path.{_≡_, refl}
+use lib.ListN.{length}
+use Rattle.text.specs.Place.{rest}
+use Rattle.lexical.specs.Lexical.{skip, isLoose}
+use Rattle.lexical.proofs.Laws.{skip·laws}
+use Rattle.lexical.proofs.read_optional_whitespace.Statement.{statement}
+use Rattle.lexical.proofs.read_optional_whitespace.Tie as tie
+
+abbrev Inv-loop : tie.InvT-loop
+Inv-loop text at₀ at = skip isLoose text at ≡ skip isLoose text at₀
+
+abbrev μ-loop : tie.MeasureT-loop
+μ-loop text at₀ at = length (rest text at)
+
+loop-holds : tie.Need-loop-holds Inv-loop μ-loop
+loop-holds c = refl
+
+take-requires : tie.Need-take-requires Inv-loop μ-loop
+take-requires c κs = search needs
+
+enum-known-b : tie.Need-enum-known-b Inv-loop μ-loop
+enum-known-b c = search needs
+
+is-loose-requires : tie.Need-is-loose-requires Inv-loop μ-loop
+is-loose-requires c κs = search needs
+
+loop-less : tie.Need-loop-less Inv-loop μ-loop
+loop-less c = search (skip·laws, needs)
+
+loop-again : tie.Need-loop-again Inv-loop μ-loop
+loop-again c = search (skip·laws, needs)
+
+returns : tie.Need-returns Inv-loop μ-loop
+returns c = search (skip·laws, needs)
+
+enum-told : tie.Need-enum-told Inv-loop μ-loop
+enum-told c = search needs
+
+returns-2 : tie.Need-returns-2 Inv-loop μ-loop
+returns-2 c = search (skip·laws, needs)
+
+pub read-optional-whitespace-spec : {M : Type 1} → statement M
+read-optional-whitespace-spec =
+    tie.close
+    (tie.spec
+    Inv-loop
+    μ-loop
+    loop-holds
+    take-requires
+    enum-known-b
+    is-loose-requires
+    loop-less
+    loop-again
+    returns
+    enum-told
+    returns-2)

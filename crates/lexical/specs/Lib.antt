@@ -1,0 +1,3 @@
+pub mod Lexical
+pub mod Token
+pub mod Hex

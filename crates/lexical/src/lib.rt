@@ -1,0 +1,328 @@
+// The lexical readers: each takes bytes at a place, and answers what it read and the place after it, or a refusal with its place.
+ghost use mathlib.Core.Bool.{true};
+ghost use mathlib.Core.Path.{_≡_};
+ghost use Rattle.text.specs.Reader.{ok};
+ghost use Rattle.lexical.specs.Lexical.{isBlank, isLoose, number, told, onto, toldByte, anyByte, skip, gap, fixed, lineEnd, starts, leading};
+ghost use Rattle.lexical.specs.Token.{Tokened};
+ghost use Rattle.lexical.specs.Hex.{hexOf, isMark, hexDigit, hexStart, hexByte};
+use text::TextLocation;
+use text::Took;
+use text::take;
+
+// The part of the file in which a rule is broken.
+pub enum XbmPart {
+    Width,
+    Height,
+    HotspotX,
+    HotspotY,
+    Array,
+    Data,
+    ArrayEnd,
+    Trailing,
+}
+
+// The place after what was read, or the refusal's.
+pub enum Passed {
+    To(TextLocation),
+    Refused(XbmPart, TextLocation),
+}
+
+// A byte, or a number below 256, and the place after it; or the refusal's place.
+pub enum ByteRead {
+    Got(u8, TextLocation),
+    Refused(XbmPart, TextLocation),
+}
+
+// How many bytes were stored, and the place after them; or the refusal's place.
+pub enum Token {
+    Read(usize, TextLocation),
+    Refused(XbmPart, TextLocation),
+}
+
+// Space or tab.
+pub fn is_blank(b: u8) -> bool
+    ensures { λ r. ⌜ r ≡ isBlank b ⌝ }
+{
+    if b == b' ' {
+        return true;
+    }
+    b == b'\t'
+}
+
+// Space, tab or newline.
+pub fn is_loose(b: u8) -> bool
+    ensures { λ r. ⌜ r ≡ isLoose b ⌝ }
+{
+    if is_blank(b) {
+        return true;
+    }
+    b == b'\n'
+}
+
+// Blanks or none.
+fn skip_blanks(text: &[u8], place: TextLocation) -> TextLocation
+    ensures { λ r. ⌜ ok tt r ≡ skip isBlank (now (text .entry)) place ⌝ }
+{
+    let mut at = place;
+    loop {
+        match take(text, at) {
+            Took::Next(b, next) => {
+                if is_blank(b) {
+                    at = next;
+                } else {
+                    return at;
+                }
+            }
+            Took::End => return at,
+        }
+    }
+}
+
+// Read a mixture of ' ', '\t' and '\n', also none.
+pub fn read_optional_whitespace(text: &[u8], place: TextLocation) -> TextLocation
+    ensures { λ r. ⌜ ok tt r ≡ skip isLoose (now (text .entry)) place ⌝ }
+{
+    let mut at = place;
+    loop {
+        match take(text, at) {
+            Took::Next(b, next) => {
+                if is_loose(b) {
+                    at = next;
+                } else {
+                    return at;
+                }
+            }
+            Took::End => return at,
+        }
+    }
+}
+
+// Read a single byte.
+pub fn read_byte(text: &[u8], place: TextLocation, part: XbmPart) -> ByteRead
+    ensures { λ r. ⌜ toldByte r ≡ anyByte (number part) (now (text .entry)) place ⌝ }
+{
+    match take(text, place) {
+        Took::Next(b, next) => ByteRead::Got(b, next),
+        Took::End => ByteRead::Refused(part, place),
+    }
+}
+
+// Read a mixture of ' ' and '\t'. At least one character must be read.
+pub fn read_whitespace_gap(text: &[u8], place: TextLocation, part: XbmPart) -> Passed
+    ensures { λ r. ⌜ told r ≡ gap (number part) (now (text .entry)) place ⌝ }
+{
+    match take(text, place) {
+        Took::Next(b, next) => {
+            if is_blank(b) {
+                Passed::To(skip_blanks(text, next))
+            } else {
+                Passed::Refused(part, next)
+            }
+        }
+        Took::End => Passed::Refused(part, place),
+    }
+}
+
+// Read a mixture of ' ' and '\t', until reading '\n'.
+pub fn read_to_newline(text: &[u8], place: TextLocation, part: XbmPart) -> Passed
+    ensures { λ r. ⌜ told r ≡ lineEnd (number part) (now (text .entry)) place ⌝ }
+{
+    let at = skip_blanks(text, place);
+    match take(text, at) {
+        Took::Next(b, next) => {
+            if b == b'\n' {
+                Passed::To(next)
+            } else {
+                Passed::Refused(part, next)
+            }
+        }
+        Took::End => Passed::Refused(part, at),
+    }
+}
+
+// Read precisely the string `s`.
+pub fn read_fixed_string(text: &[u8], place: TextLocation, s: &[u8], part: XbmPart) -> Passed
+    ensures { λ r. ⌜ told r ≡ fixed (number part) (now (s .entry)) (now (text .entry)) place ⌝ }
+{
+    let mut at = place;
+    let mut i = 0;
+    while i < s.len() {
+        match take(text, at) {
+            Took::Next(b, next) => {
+                if b == s[i] {
+                    at = next;
+                } else {
+                    return Passed::Refused(part, next);
+                }
+            }
+            Took::End => return Passed::Refused(part, at),
+        }
+        i += 1;
+    }
+    Passed::To(at)
+}
+
+// The same after an answer, of which a refusal is passed on.
+pub fn then_fixed(text: &[u8], before: Passed, s: &[u8], part: XbmPart) -> Passed
+    ensures { λ r. ⌜ told r ≡ onto «before» (fixed (number part) (now (s .entry))) (now (text .entry)) ⌝ }
+{
+    match before {
+        Passed::To(p) => read_fixed_string(text, p, s, part),
+        Passed::Refused(q, at) => Passed::Refused(q, at),
+    }
+}
+
+// A gap after an answer, of which a refusal is passed on.
+pub fn then_gap(text: &[u8], before: Passed, part: XbmPart) -> Passed
+    ensures { λ r. ⌜ told r ≡ onto «before» (gap (number part)) (now (text .entry)) ⌝ }
+{
+    match before {
+        Passed::To(p) => read_whitespace_gap(text, p, part),
+        Passed::Refused(q, at) => Passed::Refused(q, at),
+    }
+}
+
+// Whether a define line starts with this byte; `fresh`: it starts a line.
+fn starts_define(fresh: bool, b: u8) -> bool
+    ensures { λ r. ⌜ r ≡ starts fresh b ⌝ }
+{
+    if fresh { b == b'#' } else { false }
+}
+
+// Skip whole lines, up to the first that begins with `#`.
+pub fn skip_non_define_lines(text: &[u8], place: TextLocation, part: XbmPart) -> Passed
+    ensures { λ r. ⌜ told r ≡ leading (number part) true (now (text .entry)) place ⌝ }
+{
+    let mut at = place;
+    let mut fresh = true;
+    loop {
+        match take(text, at) {
+            Took::Next(b, next) => {
+                if starts_define(fresh, b) {
+                    return Passed::To(at);
+                }
+                fresh = b == b'\n';
+                at = next;
+            }
+            Took::End => return Passed::Refused(part, at),
+        }
+    }
+}
+
+// Read token into the buffer until the buffer size is exceeded, or ' ' or '\t' or '\n' is found.
+pub fn read_until_whitespace(
+    text: &[u8],
+    place: TextLocation,
+    buf: &mut [u8],
+    part: XbmPart,
+) -> Token
+    ensures { λ r. ⌜ Tokened isLoose (number part) (now (text .entry)) place (now (buf .entry)) (now (buf .exit)) r ⌝ }
+{
+    let mut at = place;
+    let mut len: usize = 0;
+    loop {
+        match take(text, at) {
+            Took::Next(b, next) => {
+                if is_loose(b) {
+                    return Token::Read(len, at);
+                }
+                if len >= buf.len() {
+                    return Token::Refused(part, at);
+                }
+                buf[len] = b;
+                len += 1;
+                at = next;
+            }
+            Took::End => return Token::Read(len, at),
+        }
+    }
+}
+
+// A hex digit's value, and 16 of any other byte.
+pub fn hex_value(b: u8) -> u8
+    ensures { λ r. ⌜ r ≡ hexOf b ⌝ }
+{
+    if b < b'0' {
+        return 16;
+    }
+    if b <= b'9' {
+        return b - b'0';
+    }
+    if b < b'A' {
+        return 16;
+    }
+    if b <= b'F' {
+        return b - b'A' + 10;
+    }
+    if b < b'a' {
+        return 16;
+    }
+    if b <= b'f' {
+        return b - b'a' + 10;
+    }
+    16
+}
+
+// Read a single hex digit, either upper or lower case.
+pub fn read_hex_digit(text: &[u8], place: TextLocation, part: XbmPart) -> ByteRead
+    ensures { λ r. ⌜ toldByte r ≡ hexDigit (number part) (now (text .entry)) place ⌝ }
+{
+    match take(text, place) {
+        Took::Next(b, next) => {
+            let v = hex_value(b);
+            if v < 16 {
+                ByteRead::Got(v, next)
+            } else {
+                ByteRead::Refused(part, next)
+            }
+        }
+        Took::End => ByteRead::Refused(part, place),
+    }
+}
+
+// `x` or `X`.
+fn is_mark(b: u8) -> bool
+    ensures { λ r. ⌜ r ≡ isMark b ⌝ }
+{
+    if b == b'x' {
+        return true;
+    }
+    b == b'X'
+}
+
+// `0` and then `x` or `X`.
+fn read_hex_start(text: &[u8], place: TextLocation, part: XbmPart) -> Passed
+    ensures { λ r. ⌜ told r ≡ hexStart (number part) (now (text .entry)) place ⌝ }
+{
+    let a = match read_fixed_string(text, place, b"0", part) {
+        Passed::To(p) => p,
+        Passed::Refused(q, at) => return Passed::Refused(q, at),
+    };
+    match take(text, a) {
+        Took::Next(b, next) => {
+            if is_mark(b) {
+                Passed::To(next)
+            } else {
+                Passed::Refused(part, next)
+            }
+        }
+        Took::End => Passed::Refused(part, a),
+    }
+}
+
+// Read a hex-encoded byte (e.g.: 0xA1).
+pub fn read_hex_byte(text: &[u8], place: TextLocation, part: XbmPart) -> ByteRead
+    ensures { λ r. ⌜ toldByte r ≡ hexByte (number part) (now (text .entry)) place ⌝ }
+{
+    let a = match read_hex_start(text, place, part) {
+        Passed::To(p) => p,
+        Passed::Refused(q, at) => return ByteRead::Refused(q, at),
+    };
+    match read_hex_digit(text, a, part) {
+        ByteRead::Got(hi, b) => match read_hex_digit(text, b, part) {
+            ByteRead::Got(lo, c) => ByteRead::Got(hi * 16 + lo, c),
+            ByteRead::Refused(q, at) => ByteRead::Refused(q, at),
+        },
+        ByteRead::Refused(q, at) => ByteRead::Refused(q, at),
+    }
+}

@@ -1,0 +1,5 @@
+pub mod Ascii
+pub mod Place
+pub mod Rest
+pub mod Reader
+pub mod Leaf
