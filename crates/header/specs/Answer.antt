@@ -9,8 +9,11 @@ use Rattle.text.specs.declared.TextLocation.{TextLocation}
 use Rattle.text.specs.Place.{start}
 use Rattle.text.specs.Reader.{Result, ok, stop, bad, endOf, Reader, _>>=_, _>>_, Told, accepted, refused, unplaced, shown}
 use Rattle.lexical.specs.Lexical.{isLoose, number}
-use Rattle.lexical.specs.Token.{token, span, overlay}
-use Rattle.header.specs.Header.{Head, opening, header}
+use Rattle.text.specs.Ascii.{ascii}
+use Rattle.text.specs.Leaf.{give, want, need, fork}
+use Rattle.lexical.specs.declared.Token.{Token}
+use Rattle.lexical.specs.Token.{token, span, overlay, toldToken, sizeOf}
+use Rattle.header.specs.Header.{Head, endWidth, before, value, unsigned, signed, positive, symbol, ending, opening, header}
 use Rattle.header.specs.declared.XbmDecodeError.{XbmDecodeError}
 use Rattle.header.specs.declared.XbmDecodeError.the-variants.{Parse, DecodeInteger, ZeroWidth, ZeroHeight}
 use Rattle.header.specs.declared.Hotspot.{Hotspot}
@@ -19,6 +22,12 @@ use Rattle.header.specs.declared.XbmHeaderData.{XbmHeaderData}
 use Rattle.header.specs.declared.HeaderRead.{HeaderRead}
 use Rattle.header.specs.declared.HeaderRead.the-variants.{Read, Refused}
 use Rattle.header.specs.declared.HeaderAnswer.{HeaderAnswer}
+use Rattle.header.specs.declared.SideRead.{SideRead}
+use Rattle.header.specs.declared.SideRead.the-variants.{Side, Refused as NoSide}
+use Rattle.header.specs.declared.CoordinateRead.{CoordinateRead}
+use Rattle.header.specs.declared.CoordinateRead.the-variants.{Coordinate, Refused as NoCoordinate}
+use Rattle.header.specs.declared.HotspotRead.{HotspotRead}
+use Rattle.header.specs.declared.HotspotRead.the-variants.{Spot, Refused as NoSpot}
 
 -- a refusal's number, and its place where one is told
 abbrev pub toldError : {A : Type 0} → XbmDecodeError → Told A
@@ -38,6 +47,18 @@ abbrev pub toldHeader : List ℕ → HeaderRead → Told Head
 toldHeader name (Read d p) = accepted (headOf name d) p
 toldHeader name (Refused e) = toldError e
 
+abbrev pub toldSide : SideRead → Told ℕ
+toldSide (Side n p) = accepted n p
+toldSide (NoSide e) = toldError e
+
+abbrev pub toldCoordinate : CoordinateRead → Told ℤ
+toldCoordinate (Coordinate z p) = accepted z p
+toldCoordinate (NoCoordinate e) = toldError e
+
+abbrev pub toldSpot : HotspotRead → Told (ℤ × ℤ)
+toldSpot (Spot x y p) = accepted (x, y) p
+toldSpot (NoSpot e) = toldError e
+
 -- the symbol's bytes that reading a text stores: those taken from where the symbol starts, none where nothing opens it
 abbrev pub storedIn : ℕ → List ℕ → Result (Unit {0}) → List ℕ
 storedIn limit t (ok a i) = span t i (endOf (token isLoose 1 limit t i))
@@ -46,6 +67,48 @@ storedIn limit t (bad c e) = []
 
 unfoldable pub stored : ℕ → List ℕ → List ℕ
 stored limit t = storedIn limit t (opening t start)
+
+-- ---- the header's parts, as the code reads them
+
+unfoldable pub unsignedLine : ℕ → Reader ℕ
+unsignedLine c = value c (unsigned (c + 10))
+
+unfoldable pub signedLine : ℕ → Reader ℤ
+signedLine c = value c (signed (c + 10))
+
+unfoldable pub sideLine : ℕ → List ℕ → List ℕ → Reader ℕ
+sideLine c name z = symbol c name z >> unsignedLine c
+
+unfoldable pub coordinateLine : ℕ → List ℕ → List ℕ → Reader ℤ
+coordinateLine c name z = symbol c name z >> signedLine c
+
+unfoldable pub spot : List ℕ → Reader (ℤ × ℤ)
+spot name = coordinateLine 3 name (ascii "_x_hot") >>= λ x. coordinateLine 4 name (ascii "_y_hot") >>= λ y. give (x, y)
+
+unfoldable pub endingOf : List ℕ → ℕ → ℕ → Option (ℤ × ℤ) → Reader Head
+endingOf name w h o = ending name w h o
+
+unfoldable pub restOf : List ℕ → ℕ → ℕ → Reader Head
+restOf name w h = fork 5 35 (spot name >>= λ s. endingOf name w h (some s)) 115 (endingOf name w h none)
+
+unfoldable pub heightOf : List ℕ → ℕ → Reader Head
+heightOf name w = sideLine 2 name (ascii "_height") >>= λ v. need 22 (positive v) >>= λ h. restOf name w h
+
+unfoldable pub sidesOf : List ℕ → Reader Head
+sidesOf name = unsignedLine 1 >>= λ v. need 21 (positive v) >>= λ w. heightOf name w
+
+-- the name in the width's symbol
+unfoldable pub widthSymbol : ℕ → Reader (List ℕ)
+widthSymbol limit = opening >> token isLoose 1 limit >>= λ s. want 1 (before endWidth s)
+
+pub record Symboled (text lent later : List ℕ) (r : Token) : Type 0 where
+  pub answer : toldToken later r ≡ widthSymbol (length lent) text start
+  pub fits : sizeOf r ≤ length later
+  pub symbol : later ≡ overlay (stored (length lent) text) lent
+
+pub record Valued (c : ℕ) (text : List ℕ) (place : TextLocation) (later : List ℕ) (r : Token) : Type 0 where
+  pub answer : toldToken later r ≡ value c give text place
+  pub fits : sizeOf r ≤ length later
 
 -- the length of the name handed back: none of a refused header
 abbrev pub nameLength : Result Head → ℕ

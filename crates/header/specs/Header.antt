@@ -70,6 +70,10 @@ side c d w = unsigned c w >>= λ v. need d (positive v)
 abbrev pub line : {A : Type 0} → ℕ → List ℕ → List ℕ → (List ℕ → Reader A) → Reader A
 line c name z f = fixed c hashDefine >> gap c >> fixed c name >> fixed c z >> value c f
 
+-- what precedes its value
+unfoldable pub symbol : ℕ → List ℕ → List ℕ → Reader (Unit {0})
+symbol c name z = fixed c hashDefine >> gap c >> fixed c name >> fixed c z
+
 -- the width line, at most limit bytes in its symbol: the name and the width
 unfoldable pub widthLine : ℕ → Reader (List ℕ × ℕ)
 widthLine limit =
