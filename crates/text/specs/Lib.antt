@@ -3,3 +3,4 @@ pub mod Place
 pub mod Rest
 pub mod Reader
 pub mod Leaf
+pub mod Outcome

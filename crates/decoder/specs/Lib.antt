@@ -1,0 +1,3 @@
+pub mod Data
+pub mod Step
+pub mod Code

@@ -1,0 +1,71 @@
+-- One call for the next data byte: the answer, and the decoder after it.
+use Prim.Native.Nat.{ℕ, _+_, _*_, _/_}
+use mathlib.Core.Path.{_≡_}
+use mathlib.Core.Option.{Option, none, some}
+use mathlib.Core.Bool.{Bool, true, false, _||_}
+use mathlib.Core.List.{List}
+use lib.ListN.{length}
+use lib.Dec.{eqb, ltb}
+use Rattle.text.specs.declared.TextLocation.{TextLocation}
+use Rattle.text.specs.Place.{pick}
+use Rattle.text.specs.Reader.{Result, endOf, Reader, _>>=_, _>>_}
+use Rattle.text.specs.Leaf.{give}
+use Rattle.text.specs.Outcome.{Outcome, accepted, refused, unplaced, outcome}
+use Rattle.lexical.specs.Lexical.{number}
+use Rattle.decoder.specs.Data.{item, trailer}
+use Rattle.decoder.specs.declared.XbmStreamDecoder.{XbmStreamDecoder}
+use Rattle.decoder.specs.declared.NextByte.{NextByte}
+use Rattle.decoder.specs.declared.NextByte.the-variants.{Byte, Done, Refused, Foreign}
+use Rattle.decoder.specs.declared.Stepped.{Stepped}
+
+-- the bytes of a row, and of a picture
+abbrev pub rowBytes : ℕ → ℕ
+rowBytes w = (w + 7) / 8
+
+abbrev pub bytesOf : ℕ → ℕ → ℕ
+bytesOf w h = rowBytes w * h
+
+-- document 01's foreign decoder: numbers that no header of this text gave
+unfoldable pub foreign : List ℕ → XbmStreamDecoder → Bool
+foreign t d =
+    pick (eqb (d .width) 0) true
+    (pick (eqb (d .height) 0) true
+    (pick (ltb (bytesOf (d .width) (d .height)) (d .current-position)) true
+    (pick (ltb (length t) (d .location .byte .0)) true
+    (pick (ltb (d .location .byte .0) (d .location .column .0)) true
+    (ltb (d .location .byte .0 + 1) (d .location .line .0))))))
+
+-- a data byte is left
+abbrev pub more : XbmStreamDecoder → Bool
+more d = ltb (d .current-position) (bytesOf (d .width) (d .height))
+
+-- what is read: the next data byte, or after the last the trailer
+unfoldable pub called : XbmStreamDecoder → Reader (Option ℕ)
+called d = pick (more d) (item (eqb (d .current-position) 0) >>= λ b. give (some b)) (trailer >> give none)
+
+-- a data byte is spent before it is read
+abbrev pub spent : XbmStreamDecoder → ℕ
+spent d = pick (more d) (d .current-position + 1) (d .current-position)
+
+abbrev pub moved : XbmStreamDecoder → TextLocation → XbmStreamDecoder
+moved d e = record { width = d .width; height = d .height; current-position = spent d; location = e }
+
+pub record Step : Type 0 where
+  pub answer : Outcome (Option ℕ)
+  pub decoder : XbmStreamDecoder
+
+unfoldable pub stepOf : List ℕ → XbmStreamDecoder → Step
+stepOf t d = record {
+  answer = pick (foreign t d) (unplaced 9) (outcome (λ b. b) (called d t (d .location)));
+  decoder = pick (foreign t d) d (moved d (endOf (called d t (d .location))));
+}
+
+-- an answer of the code: the byte, none left, or the refusal's number and place
+abbrev pub toldNext : NextByte → Outcome (Option ℕ)
+toldNext (Byte b) = accepted (some b)
+toldNext Done = accepted none
+toldNext (Refused part p) = refused (number part) p
+toldNext Foreign = unplaced 9
+
+abbrev pub toldStep : Stepped → Step
+toldStep r = record { answer = toldNext (r .answer); decoder = r .decoder }
