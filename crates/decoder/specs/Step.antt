@@ -30,25 +30,25 @@ unfoldable pub foreign : List ℕ → XbmStreamDecoder → Bool
 foreign t d =
     pick (eqb (d .width) 0) true
     (pick (eqb (d .height) 0) true
-    (pick (ltb (bytesOf (d .width) (d .height)) (d .current-position)) true
+    (pick (ltb (bytesOf (d .width) (d .height)) (d .«current_position»)) true
     (pick (ltb (length t) (d .location .byte .0)) true
     (pick (ltb (d .location .byte .0) (d .location .column .0)) true
     (ltb (d .location .byte .0 + 1) (d .location .line .0))))))
 
 -- a data byte is left
 abbrev pub more : XbmStreamDecoder → Bool
-more d = ltb (d .current-position) (bytesOf (d .width) (d .height))
+more d = ltb (d .«current_position») (bytesOf (d .width) (d .height))
 
 -- what is read: the next data byte, or after the last the trailer
 unfoldable pub called : XbmStreamDecoder → Reader (Option ℕ)
-called d = pick (more d) (item (eqb (d .current-position) 0) >>= λ b. give (some b)) (trailer >> give none)
+called d = pick (more d) (item (eqb (d .«current_position») 0) >>= λ b. give (some b)) (trailer >> give none)
 
 -- a data byte is spent before it is read
 abbrev pub spent : XbmStreamDecoder → ℕ
-spent d = pick (more d) (d .current-position + 1) (d .current-position)
+spent d = pick (more d) (d .«current_position» + 1) (d .«current_position»)
 
 abbrev pub moved : XbmStreamDecoder → TextLocation → XbmStreamDecoder
-moved d e = record { width = d .width; height = d .height; current-position = spent d; location = e }
+moved d e = record { width = d .width; height = d .height; «current_position» = spent d; location = e }
 
 pub record Step : Type 0 where
   pub answer : Outcome (Option ℕ)

@@ -29,12 +29,19 @@ use Rattle.header.specs.declared.CoordinateRead.the-variants.{Coordinate
 use Rattle.header.specs.declared.HotspotRead.{HotspotRead}
 use Rattle.header.specs.declared.HotspotRead.the-variants.{Spot, Refused as NoSpot}
 
+-- a refusal's number, by document 01
+abbrev pub numberOf : XbmDecodeError → ℕ
+numberOf (Parse part p) = number part
+numberOf (DecodeInteger part) = number part + 10
+numberOf ZeroWidth = 21
+numberOf ZeroHeight = 22
+
 -- a refusal's number, and its place where one is told
 abbrev pub toldError : {A : Type 0} → XbmDecodeError → Told A
-toldError (Parse part p) = refused (number part) p
-toldError (DecodeInteger part) = unplaced (number part + 10)
-toldError ZeroWidth = unplaced 21
-toldError ZeroHeight = unplaced 22
+toldError (Parse part p) = refused (numberOf (Parse part p)) p
+toldError (DecodeInteger part) = unplaced (numberOf (DecodeInteger part))
+toldError ZeroWidth = unplaced (numberOf ZeroWidth)
+toldError ZeroHeight = unplaced (numberOf ZeroHeight)
 
 abbrev pub hotOf : Hotspot → Option (ℤ × ℤ)
 hotOf Absent = none
