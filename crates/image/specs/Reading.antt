@@ -1,6 +1,7 @@
 -- The reading of pixels from a text: what it answers, and what the two lent buffers hold after it. All contracts above the header cite this.
 use mathlib.Core.Path.{_≡_}
 use Prim.Native.Nat.{ℕ, _≤_}
+use mathlib.Core.Bool.{true}
 use mathlib.Core.List.{List, []}
 use lib.ListN.{length, take}
 use Rattle.text.specs.declared.TextLocation.{TextLocation}
