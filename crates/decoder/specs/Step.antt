@@ -47,8 +47,9 @@ called d = pick (more d) (item (eqb (d .«current_position») 0) >>= λ b. give 
 abbrev pub spent : XbmStreamDecoder → ℕ
 spent d = pick (more d) (d .«current_position» + 1) (d .«current_position»)
 
-abbrev pub moved : XbmStreamDecoder → TextLocation → XbmStreamDecoder
-moved d e = record { width = d .width; height = d .height; «current_position» = spent d; location = e }
+-- the decoder at another position and place
+abbrev pub placedAt : XbmStreamDecoder → ℕ → TextLocation → XbmStreamDecoder
+placedAt d k e = record { width = d .width; height = d .height; «current_position» = k; location = e }
 
 pub record Step : Type 0 where
   pub answer : Outcome (Option ℕ)
@@ -57,7 +58,7 @@ pub record Step : Type 0 where
 unfoldable pub stepOf : List ℕ → XbmStreamDecoder → Step
 stepOf t d = record {
   answer = pick (foreign t d) (unplaced 9) (outcome (λ b. b) (called d t (d .location)));
-  decoder = pick (foreign t d) d (moved d (endOf (called d t (d .location))));
+  decoder = pick (foreign t d) d (placedAt d (spent d) (endOf (called d t (d .location))));
 }
 
 -- an answer of the code: the byte, none left, or the refusal's number and place

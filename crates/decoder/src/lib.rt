@@ -4,7 +4,7 @@ ghost use Prim.Native.Nat.{_+_};
 ghost use Rattle.text.specs.Reader.{ok};
 ghost use Rattle.lexical.specs.Lexical.{told, toldByte, onto, skip, isLoose};
 ghost use Rattle.decoder.specs.Data.{item, brace, closing, tail, trailer};
-ghost use Rattle.decoder.specs.Step.{bytesOf, foreign, toldStep, stepOf};
+ghost use Rattle.decoder.specs.Step.{bytesOf, foreign, placedAt, toldStep, stepOf};
 ghost use Rattle.decoder.specs.Code.{separator, ended};
 use lexical::ByteRead;
 use lexical::Passed;
@@ -137,4 +137,89 @@ pub fn read_trailer(text: &[u8], place: TextLocation) -> Passed
     let a = read_closing(text, place);
     let b = then_loose(text, a);
     then_end(text, b)
+}
+
+// How many data bytes a picture has.
+fn data_size(width: u32, height: u32) -> u64
+    ensures { λ r. ⌜ r ≡ bytesOf width height ⌝ }
+{
+    (width as u64 + 7) / 8 * (height as u64)
+}
+
+// Whether the decoder has numbers that no header of this text gave.
+fn is_foreign(text: &[u8], d: XbmStreamDecoder) -> bool
+    ensures { λ r. ⌜ r ≡ foreign (now (text .entry)) d ⌝ }
+{
+    if d.width == 0 {
+        return true;
+    }
+    if d.height == 0 {
+        return true;
+    }
+    if data_size(d.width, d.height) < d.current_position {
+        return true;
+    }
+    let place = d.location;
+    let at = place.byte.0;
+    let line = place.line.0;
+    let column = place.column.0;
+    if (text.len() as u64) < at {
+        return true;
+    }
+    if at < column {
+        return true;
+    }
+    at + 1 < line
+}
+
+// The next byte of the raw image data, and the decoder after it. A data byte is counted before it is read.
+pub fn step(text: &[u8], d: XbmStreamDecoder) -> Stepped
+    ensures { λ r. ⌜ toldStep r ≡ stepOf (now (text .entry)) d ⌝ }
+{
+    if is_foreign(text, d) {
+        return Stepped {
+            decoder: d,
+            answer: NextByte::Foreign,
+        };
+    }
+    let at = d.location;
+    let position = d.current_position;
+    if position < data_size(d.width, d.height) {
+        match read_data_byte(text, at, position == 0) {
+            ByteRead::Got(b, next) => {
+                return Stepped {
+                    decoder: placed(d, position + 1, next),
+                    answer: NextByte::Byte(b),
+                };
+            }
+            ByteRead::Refused(part, p) => {
+                return Stepped {
+                    decoder: placed(d, position + 1, p),
+                    answer: NextByte::Refused(part, p),
+                };
+            }
+        }
+    }
+    match read_trailer(text, at) {
+        Passed::To(p) => Stepped {
+            decoder: placed(d, position, p),
+            answer: NextByte::Done,
+        },
+        Passed::Refused(part, p) => Stepped {
+            decoder: placed(d, position, p),
+            answer: NextByte::Refused(part, p),
+        },
+    }
+}
+
+// The decoder at another position and place.
+fn placed(d: XbmStreamDecoder, position: u64, location: TextLocation) -> XbmStreamDecoder
+    ensures { λ r. ⌜ r ≡ placedAt d position location ⌝ }
+{
+    XbmStreamDecoder {
+        width: d.width,
+        height: d.height,
+        current_position: position,
+        location: location,
+    }
 }
