@@ -1,3 +1,6 @@
 pub mod Cells
 pub mod Rows
 pub mod Reading
+pub mod Quick
+pub mod Stores
+pub mod Kept

@@ -1,11 +1,29 @@
 // Pixels from a text: the header, then the rows of cells, into lent buffers.
 ghost use mathlib.Core.Path.{_≡_};
+ghost use Prim.Native.Nat.{_+_, _≤_};
+ghost use lib.ListN.{length};
+ghost use Rattle.lexical.specs.Lexical.{toldByte};
+ghost use Rattle.lexical.specs.Hex.{hexOf};
+ghost use Rattle.decoder.specs.Data.{item};
+ghost use Rattle.image.specs.Cells.{ink};
+ghost use Rattle.image.specs.Stores.{dab};
+ghost use Rattle.image.specs.Quick.{Meets, hexTable};
 ghost use Rattle.image.specs.Rows.{Filled};
 ghost use Rattle.image.specs.Reading.{Imaged};
+use decoder::read_data_byte;
+use decoder::read_trailer;
 use header::XbmDecodeError;
 use header::XbmHeaderData;
+use hex_table::HEX;
+use lexical::ByteRead;
+use lexical::Passed;
 use lexical::XbmPart;
+use text::Byte;
+use text::Column;
+use text::Line;
 use text::TextLocation;
+
+mod hex_table;
 
 // The rows read; a refusal; or rows that are not the picture's.
 pub enum Rows {
@@ -25,4 +43,161 @@ pub enum ImageRead {
 pub struct ImageAnswer {
     pub image: ImageRead,
     pub name: usize,
+}
+
+// A byte and the place after it, or no word of what stands there.
+pub enum Quick {
+    Hit(u8, TextLocation),
+    Miss,
+}
+
+// A digit's value by the table.
+fn hex_at(table: &[u8; 256], b: u8) -> u8
+    requires { ⌜ now table ≡ hexTable ⌝ }
+    ensures { λ r. ⌜ r ≡ hexOf b ⌝ }
+{
+    table[b as usize]
+}
+
+// The common `, 0xHH` at once.
+fn quick_byte(text: &[u8], place: TextLocation, first: bool, table: &[u8; 256]) -> Quick
+    requires { ⌜ now table ≡ hexTable ⌝ }
+    ensures { λ r. ⌜ Meets r (item first (now (text .entry)) place) ⌝ }
+{
+    if first {
+        return Quick::Miss;
+    }
+    let at = place.byte.0;
+    let line = place.line.0;
+    let column = place.column.0;
+    let size = text.len() as u64;
+    if size < 6 {
+        return Quick::Miss;
+    }
+    if at > size - 6 {
+        return Quick::Miss;
+    }
+    if at < column {
+        return Quick::Miss;
+    }
+    if at + 1 < line {
+        return Quick::Miss;
+    }
+    let i = at as usize;
+    if text[i] != b',' {
+        return Quick::Miss;
+    }
+    if text[i + 1] != b' ' {
+        return Quick::Miss;
+    }
+    if text[i + 2] != b'0' {
+        return Quick::Miss;
+    }
+    if text[i + 3] != b'x' {
+        return Quick::Miss;
+    }
+    let hi = hex_at(table, text[i + 4]);
+    if hi >= 16 {
+        return Quick::Miss;
+    }
+    let lo = hex_at(table, text[i + 5]);
+    if lo >= 16 {
+        return Quick::Miss;
+    }
+    Quick::Hit(
+        hi * 16 + lo,
+        TextLocation {
+            byte: Byte(at + 6),
+            line: Line(line),
+            column: Column(column + 6),
+        },
+    )
+}
+
+// The next data byte: the common form at once, anything else by the plain reader.
+fn next_data(text: &[u8], place: TextLocation, first: bool, table: &[u8; 256]) -> ByteRead
+    requires { ⌜ now table ≡ hexTable ⌝ }
+    ensures { λ r. ⌜ toldByte r ≡ item first (now (text .entry)) place ⌝ }
+{
+    match quick_byte(text, place, first, table) {
+        Quick::Hit(v, next) => ByteRead::Got(v, next),
+        Quick::Miss => read_data_byte(text, place, first),
+    }
+}
+
+// The least bit as a cell.
+fn least(bits: u8) -> u8
+    ensures { λ r. ⌜ r ≡ ink bits 0 ⌝ }
+{
+    if bits % 2 == 1 {
+        return 0;
+    }
+    255
+}
+
+// n cells from `start` on take the bits of v, the least first.
+fn unpack(v: u8, pixels: &mut [u8], start: usize, n: usize)
+    requires { ⌜ start + n ≤ length (now pixels) ⌝ }
+    ensures { λ r. ⌜ now (pixels .exit) ≡ dab start v n (now (pixels .entry)) ⌝ }
+{
+    let mut bits = v;
+    let mut i: usize = 0;
+    while i < n {
+        pixels[start + i] = least(bits);
+        bits = bits / 2;
+        i += 1;
+    }
+}
+
+// Fills the whole rows of `width` cells that the buffer has, as far as the picture goes; no side is zero.
+fn read_rows(
+    text: &[u8],
+    place: TextLocation,
+    width: u32,
+    height: u32,
+    pixels: &mut [u8],
+) -> Rows
+    requires { ⌜ (width ≡ 0 → ⊥) × (height ≡ 0 → ⊥) ⌝ }
+    ensures { λ r. ⌜ Filled width height (now (text .entry)) place (now (pixels .entry)) (now (pixels .exit)) r ⌝ }
+{
+    let w = width as usize;
+    let h = height as usize;
+    let rows = pixels.len() / w;
+    let table = HEX;
+    let mut at = place;
+    let mut first = true;
+    let mut y: usize = 0;
+    let mut row: usize = 0;
+    let mut x: usize = 0;
+    while y < h {
+        match next_data(text, at, first, &table) {
+            ByteRead::Got(v, next) => {
+                if y >= rows {
+                    return Rows::Mismatch;
+                }
+                let left = w - x;
+                if left > 8 {
+                    unpack(v, pixels, row + x, 8);
+                    x += 8;
+                } else {
+                    unpack(v, pixels, row + x, left);
+                    row += w;
+                    y += 1;
+                    x = 0;
+                }
+                at = next;
+                first = false;
+            }
+            ByteRead::Refused(part, p) => return Rows::Refused(part, p),
+        }
+    }
+    match read_trailer(text, at) {
+        Passed::To(_) => {
+            if rows == h {
+                return Rows::Done;
+            }
+            Rows::Mismatch
+        }
+        Passed::Refused(part, p) => Rows::Refused(part, p),
+    }
 }

@@ -1,0 +1,139 @@
+-- `, 0xHH` read at once.
+use Prim.Native.Nat.{ℕ, zero, suc, _+_, _-_, _*_, _≤_, _<_, _^_}
+use native.Mathlib.Omega.{arith}
+use borrow.Author.Tests.{lt-ltb, eq-eqb, ne-eqb, eqb-true}
+use mathlib.Core.Path.{_≡_, refl, sym, ap, _∙_}
+use mathlib.Core.Option.{Option, none, some}
+use mathlib.Core.List.{List, [], _∷_}
+use mathlib.Core.Bool.{Bool, true, false}
+use lib.ListN.{length, drop, getD}
+use native.Mathlib.Numerals.{add-one}
+use lib.Seq.{drop-cons}
+use lib.Dec.{eqb, eqb→eq}
+use Rattle.text.specs.declared.TextLocation.{TextLocation}
+use Rattle.text.specs.declared.Took.{Took}
+use Rattle.text.specs.declared.Took.the-variants.{Next, End}
+use Rattle.text.specs.Place.{pick, rest, after, placeOf, tookAt}
+use Rattle.text.specs.Rest.{after-rest}
+use Rattle.text.specs.Reader.{Result, ok, stop, Reader, _>>=_, _>>_}
+use Rattle.text.specs.Leaf.{one, run, give}
+use Rattle.text.proofs.Laws.{rest-byte}
+use Rattle.lexical.specs.Lexical.{isLoose, isBlank, skip, byte, is, fixed, toldByte}
+use Rattle.lexical.specs.declared.ByteRead.{ByteRead}
+use Rattle.lexical.specs.declared.ByteRead.the-variants.{Got}
+use Rattle.lexical.specs.Hex.{hexOf, hexv, hexDigit, hexStart, hexDigits, hexUnit, isMark}
+use Rattle.decoder.specs.Data.{item}
+use Rattle.image.specs.declared.Quick.{Quick}
+use Rattle.image.specs.declared.Quick.the-variants.{Hit, Miss}
+use Rattle.image.specs.Quick.{Meets, valuesFrom, hexTable}
+
+pub miss : (d : Result ℕ) → Meets Miss d
+miss d = record { hit = λ v q e. let z : _≡_ {A = ℕ} 0 1 = cc in absurd (omega arith) }
+
+pub meets : {d : Result ℕ} {r : Quick} {v : ℕ} {q : TextLocation} → Meets r d → r ≡ Hit v q → ok v q ≡ d
+meets {v = v} {q = q} k e = k .hit v q e
+
+-- what a reader does where the next byte is known
+module _ (t : List ℕ) (i : TextLocation) (b : ℕ) (l : List ℕ) (e : rest t i ≡ b ∷ l) where
+  skip-stay : (class : ℕ → Bool) → class b ≡ false → skip class t i ≡ ok tt i
+  unfolding skip run
+  skip-stay class h = rw (e, h)
+
+  skip-on : (class : ℕ → Bool) → class b ≡ true → skip class t i ≡ skip class t (after b i)
+  unfolding skip run
+  skip-on class h = rw (e, h, after-rest t i e)
+
+  byte-on : (c : ℕ) (class : ℕ → Bool) → class b ≡ true → byte c class t i ≡ ok tt (after b i)
+  unfolding byte one
+  byte-on c class h = rw (e, h)
+
+  digit-on : (c : ℕ) → hexOf b < 16 → hexDigit c t i ≡ ok (hexOf b) (after b i)
+  unfolding hexDigit one hexv
+  digit-on c h = rw (e, lt-ltb (hexOf b) 16 h)
+
+-- a digit is no newline
+digit-not : (b : ℕ) → hexOf b < 16 → eqb b 10 ≡ false
+unfolding hexOf
+digit-not b h = go (eqb b 10) refl
+  where
+    go : (z : Bool) → eqb b 10 ≡ z → z ≡ false
+    go true k = let e : b ≡ 10 = eqb-true b 10 k in absurd (omega (arith, rw e at h))
+    go false k = refl
+
+module _ (t : List ℕ) (p : TextLocation) where
+  six : (a b : ℕ) → hexOf a < 16 → hexOf b < 16
+      → after b (after a (after 120 (after 48 (after 32 (after 44 p))))) ≡ placeOf (p .byte .0 + 6) (p .line .0) (p .column .0 + 6)
+  unfolding after
+  six a b ha hb =
+      let x : p .byte .0 + 1 + 1 + 1 + 1 + 1 + 1 ≡ p .byte .0 + 6 = omega arith in
+      let y : p .column .0 + 1 + 1 + 1 + 1 + 1 + 1 ≡ p .column .0 + 6 = omega arith in
+      rw (digit-not a ha, digit-not b hb, x, y)
+
+  six-read : (a b : ℕ) (l : List ℕ) → rest t p ≡ 44 ∷ 32 ∷ 48 ∷ 120 ∷ a ∷ b ∷ l → hexOf a < 16 → hexOf b < 16
+      → item false t p ≡ ok (hexOf a * 16 + hexOf b) (placeOf (p .byte .0 + 6) (p .line .0) (p .column .0 + 6))
+  unfolding item hexUnit hexDigits hexStart fixed give _>>=_ isLoose isBlank isMark
+  six-read a b l e ha hb =
+      let p1 = after 44 p in
+      let p2 = after 32 p1 in
+      let p3 = after 48 p2 in
+      let p4 = after 120 p3 in
+      let e1 = after-rest t p e in
+      let e2 = after-rest t p1 e1 in
+      let e3 = after-rest t p2 e2 in
+      let e4 = after-rest t p3 e3 in
+      let e5 = after-rest t p4 e4 in
+      rw (
+        skip-stay t p 44 _ e isLoose refl,
+        byte-on t p 44 _ e 6 (is 44) refl,
+        skip-on t p1 32 _ e1 isLoose refl,
+        skip-stay t p2 48 _ e2 isLoose refl,
+        byte-on t p2 48 _ e2 6 (is 48) refl,
+        byte-on t p3 120 _ e3 6 isMark refl,
+        digit-on t p4 a _ e4 6 ha,
+        digit-on t (after a p4) b _ e5 6 hb,
+        six a b ha hb,
+      )
+
+drop-at : (s : List ℕ) (n m : ℕ) → m ≡ n + 1 → n < length s → drop n s ≡ getD s n 0 ∷ drop m s
+drop-at s n m e h = rw (e, add-one, drop-cons s n 0 h)
+
+module _ (t : List ℕ) (p : TextLocation) (f : Bool) where
+  rest-six : p .column .0 ≤ p .byte .0 → p .line .0 ≤ p .byte .0 + 1 → p .byte .0 + 6 ≤ length t
+      → rest t p ≡ getD t (p .byte .0) 0 ∷ getD t (p .byte .0 + 1) 0 ∷ getD t (p .byte .0 + 2) 0 ∷ getD t (p .byte .0 + 3) 0 ∷ getD t (p .byte .0 + 4) 0
+      ∷ getD t (p .byte .0 + 5) 0 ∷ drop (p .byte .0 + 6) t
+  rest-six hc hl hb =
+      rest-byte t p hc hl (omega arith)
+      ∙ rw (
+        drop-at t (p .byte .0 + 1) (p .byte .0 + 2) (omega arith) (omega arith),
+        drop-at t (p .byte .0 + 2) (p .byte .0 + 3) (omega arith) (omega arith),
+        drop-at t (p .byte .0 + 3) (p .byte .0 + 4) (omega arith) (omega arith),
+        drop-at t (p .byte .0 + 4) (p .byte .0 + 5) (omega arith) (omega arith),
+        drop-at t (p .byte .0 + 5) (p .byte .0 + 6) (omega arith) (omega arith),
+      )
+
+  pub quick-hit : {hi lo : ℕ} → f ≡ false → 6 ≤ length t → p .byte .0 ≤ length t - 6 → p .column .0 ≤ p .byte .0 → p .line .0 ≤ p .byte .0 + 1
+      → getD t (p .byte .0) 0 ≡ 44 → getD t (p .byte .0 + 1) 0 ≡ 32 → getD t (p .byte .0 + 2) 0 ≡ 48 → getD t (p .byte .0 + 3) 0 ≡ 120
+      → hi ≡ hexOf (getD t (p .byte .0 + 4) 0) → hi < 16 → lo ≡ hexOf (getD t (p .byte .0 + 5) 0) → lo < 16
+      → Meets (Hit (hi * 16 + lo) (placeOf (p .byte .0 + 6) (p .line .0) (p .column .0 + 6))) (item f t p)
+  quick-hit {hi} {lo} hf h6 hb hc hl c0 c1 c2 c3 eh hh el hlo =
+      record {
+        hit = λ v q e.
+            let d : ok (hi * 16 + lo) (placeOf (p .byte .0 + 6) (p .line .0) (p .column .0 + 6)) ≡ item f t p
+            = rw (hf, eh, el) (sym (six-read t p (getD t (p .byte .0 + 4) 0) (getD t (p .byte .0 + 5) 0) (drop (p .byte .0 + 6) t)
+            (rw (← c0, ← c1, ← c2, ← c3) (rest-six hc hl (omega arith))) (rw (← eh) hh) (rw (← el) hlo))) in
+            let a : v ≡ hi * 16 + lo = cc in
+            let b : q ≡ placeOf (p .byte .0 + 6) (p .line .0) (p .column .0 + 6) = cc in
+            rw (a, b) d;
+      }
+
+pub ruleset quick·laws = (miss, quick-hit)
+
+-- the table's rule, at each entry
+values-at : (k n b : ℕ) → b < n → getD (valuesFrom k n) b 0 ≡ hexOf (k + b)
+values-at k zero b h = absurd (omega arith)
+values-at k (suc n) zero h = ap hexOf (omega arith)
+values-at k (suc n) (suc b) h = values-at (suc k) n b (omega arith) ∙ ap hexOf (omega arith)
+
+pub hex-there : (s : List ℕ) (b : ℕ) → s ≡ hexTable → b < 256 → getD s b 0 ≡ hexOf b
+unfolding hexTable
+hex-there s b e h = rw e (values-at 0 256 b h ∙ ap hexOf (omega arith))

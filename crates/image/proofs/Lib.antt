@@ -1,0 +1,4 @@
+pub mod Group
+pub mod Stores
+pub mod Paint
+pub mod Going
