@@ -1,11 +1,32 @@
 // The XBM header, up to and including the first opening brace. The name is stored in a lent buffer, the rest comes back by value.
+ghost use mathlib.Core.Bool.{true};
+ghost use mathlib.Core.Path.{_≡_};
+ghost use Prim.Native.Nat.{_+_};
+ghost use Rattle.text.specs.Place.{start};
+ghost use Rattle.text.specs.Reader.{shown};
+ghost use Rattle.text.specs.Leaf.{give};
+ghost use Rattle.text.specs.Ascii.{ascii};
+ghost use Rattle.lexical.specs.Lexical.{number, told, onto};
+ghost use Rattle.header.specs.Header.{endsWith, opening, symbol, element, arrayLine};
+ghost use Rattle.header.specs.Answer.{hotOf, toldSide, toldCoordinate, toldSpot, toldHeader, unsignedLine, signedLine, sideLine, coordinateLine, spot, endingOf, restOf, heightOf, sidesOf, Symboled, Valued, Headed};
 use integer::Signed;
 use integer::Unsigned;
+use integer::parse_i32;
+use integer::parse_u32;
 use lexical::Passed;
 use lexical::Token;
 use lexical::XbmPart;
+use lexical::read_fixed_string;
+use lexical::read_to_newline;
+use lexical::read_until_whitespace;
+use lexical::read_whitespace_gap;
+use lexical::skip_non_define_lines;
+use lexical::then_fixed;
+use lexical::then_gap;
 use text::TextLocation;
 use text::Took;
+use text::beginning;
+use text::take;
 
 // Error that can occur while parsing an XBM file.
 pub enum XbmDecodeError {
@@ -58,37 +79,311 @@ pub enum HotspotRead {
 }
 
 // Whether `bytes` ends with `suffix`.
+fn ends_with(bytes: &[u8], suffix: &[u8]) -> bool
+    ensures { λ r. ⌜ r ≡ endsWith (now (bytes .entry)) (now (suffix .entry)) ⌝ }
+{
+    if bytes.len() < suffix.len() {
+        return false;
+    }
+    let start = bytes.len() - suffix.len();
+    let mut i = 0;
+    while i < suffix.len() {
+        if bytes[start + i] == suffix[i] {
+            i += 1;
+        } else {
+            return false;
+        }
+    }
+    true
+}
 
 // What precedes the width's symbol: leading lines, `#define`, a gap.
+fn read_opening(text: &[u8]) -> Passed
+    ensures { λ r. ⌜ told r ≡ opening (now (text .entry)) start ⌝ }
+{
+    let a = skip_non_define_lines(text, beginning(), XbmPart::Width);
+    let b = then_fixed(text, a, b"#define", XbmPart::Width);
+    then_gap(text, b, XbmPart::Width)
+}
 
 // The width's symbol, stored in `name`; the answer has the length of the name in it.
+fn read_width_symbol(text: &[u8], name: &mut [u8]) -> Token
+    ensures { λ r. ⌜ Symboled (now (text .entry)) (now (name .entry)) (now (name .exit)) r ⌝ }
+{
+    let a = match read_opening(text) {
+        Passed::To(p) => p,
+        Passed::Refused(q, at) => return Token::Refused(q, at),
+    };
+    match read_until_whitespace(text, a, name, XbmPart::Width) {
+        Token::Read(n, b) => {
+            if ends_with(&name[..n], b"_width") {
+                Token::Read(n - 6, b)
+            } else {
+                Token::Refused(XbmPart::Width, b)
+            }
+        }
+        Token::Refused(q, at) => Token::Refused(q, at),
+    }
+}
 
 // A gap, an integer token, and the line's end.
+fn read_value(text: &[u8], place: TextLocation, digits: &mut [u8; 11], part: XbmPart) -> Token
+    ensures { λ r. ⌜ Valued (number part) (now (text .entry)) place (now (digits .exit)) r ⌝ }
+{
+    let a = match read_whitespace_gap(text, place, part) {
+        Passed::To(p) => p,
+        Passed::Refused(q, at) => return Token::Refused(q, at),
+    };
+    match read_until_whitespace(text, a, digits, part) {
+        Token::Read(n, b) => match read_to_newline(text, b, part) {
+            Passed::To(c) => Token::Read(n, c),
+            Passed::Refused(q, at) => Token::Refused(q, at),
+        },
+        Token::Refused(q, at) => Token::Refused(q, at),
+    }
+}
 
 // The same, as an unsigned integer.
+fn read_unsigned(text: &[u8], place: TextLocation, part: XbmPart) -> SideRead
+    ensures { λ r. ⌜ toldSide r ≡ shown (unsignedLine (number part) (now (text .entry)) place) ⌝ }
+{
+    let mut digits = [0u8; 11];
+    match read_value(text, place, &mut digits, part) {
+        Token::Read(n, next) => match parse_u32(&digits[..n]) {
+            Unsigned::Value(v) => SideRead::Side(v, next),
+            Unsigned::Bad => SideRead::Refused(XbmDecodeError::DecodeInteger(part)),
+        },
+        Token::Refused(q, at) => SideRead::Refused(XbmDecodeError::Parse(q, at)),
+    }
+}
 
 // The same, as a signed integer.
+fn read_signed(text: &[u8], place: TextLocation, part: XbmPart) -> CoordinateRead
+    ensures { λ r. ⌜ toldCoordinate r ≡ shown (signedLine (number part) (now (text .entry)) place) ⌝ }
+{
+    let mut digits = [0u8; 11];
+    match read_value(text, place, &mut digits, part) {
+        Token::Read(n, next) => match parse_i32(&digits[..n]) {
+            Signed::Number(v) => CoordinateRead::Coordinate(v, next),
+            Signed::Wrong => CoordinateRead::Refused(XbmDecodeError::DecodeInteger(part)),
+        },
+        Token::Refused(q, at) => CoordinateRead::Refused(XbmDecodeError::Parse(q, at)),
+    }
+}
 
 // `#define`, a gap, and the symbol made of the name and an ending.
+fn read_symbol(
+    text: &[u8],
+    place: TextLocation,
+    name: &[u8],
+    suffix: &[u8],
+    part: XbmPart,
+) -> Passed
+    ensures { λ r. ⌜ told r ≡ symbol (number part) (now (name .entry)) (now (suffix .entry)) (now (text .entry)) place ⌝ }
+{
+    let a = read_fixed_string(text, place, b"#define", part);
+    let b = then_gap(text, a, part);
+    let c = then_fixed(text, b, name, part);
+    then_fixed(text, c, suffix, part)
+}
 
 // A define line with an unsigned integer.
+fn read_side_line(
+    text: &[u8],
+    place: TextLocation,
+    name: &[u8],
+    suffix: &[u8],
+    part: XbmPart,
+) -> SideRead
+    ensures { λ r. ⌜ toldSide r ≡ shown (sideLine (number part) (now (name .entry)) (now (suffix .entry)) (now (text .entry)) place) ⌝ }
+{
+    match read_symbol(text, place, name, suffix, part) {
+        Passed::To(p) => read_unsigned(text, p, part),
+        Passed::Refused(q, at) => SideRead::Refused(XbmDecodeError::Parse(q, at)),
+    }
+}
 
 // A define line with a signed integer.
+fn read_coordinate_line(
+    text: &[u8],
+    place: TextLocation,
+    name: &[u8],
+    suffix: &[u8],
+    part: XbmPart,
+) -> CoordinateRead
+    ensures { λ r. ⌜ toldCoordinate r ≡ shown (coordinateLine (number part) (now (name .entry)) (now (suffix .entry)) (now (text .entry)) place) ⌝ }
+{
+    match read_symbol(text, place, name, suffix, part) {
+        Passed::To(p) => read_signed(text, p, part),
+        Passed::Refused(q, at) => CoordinateRead::Refused(XbmDecodeError::Parse(q, at)),
+    }
+}
 
 // The hotspot's two lines.
+fn read_hotspot(text: &[u8], place: TextLocation, name: &[u8]) -> HotspotRead
+    ensures { λ r. ⌜ toldSpot r ≡ shown (spot (now (name .entry)) (now (text .entry)) place) ⌝ }
+{
+    match read_coordinate_line(text, place, name, b"_x_hot", XbmPart::HotspotX) {
+        CoordinateRead::Coordinate(x, a) => {
+            match read_coordinate_line(text, a, name, b"_y_hot", XbmPart::HotspotY) {
+                CoordinateRead::Coordinate(y, b) => HotspotRead::Spot(x, y, b),
+                CoordinateRead::Refused(e) => HotspotRead::Refused(e),
+            }
+        }
+        CoordinateRead::Refused(e) => HotspotRead::Refused(e),
+    }
+}
 
 // `char`, or `unsigned`, a gap and `char`.
+fn read_element(text: &[u8], place: TextLocation, part: XbmPart) -> Passed
+    ensures { λ r. ⌜ told r ≡ element (number part) (now (text .entry)) place ⌝ }
+{
+    match take(text, place) {
+        Took::Next(b, next) => {
+            if b == b'c' {
+                return read_fixed_string(text, place, b"char", part);
+            }
+            if b == b'u' {
+                let a = read_fixed_string(text, place, b"unsigned", part);
+                let c = then_gap(text, a, part);
+                return then_fixed(text, c, b"char", part);
+            }
+            Passed::Refused(part, next)
+        }
+        Took::End => Passed::Refused(part, place),
+    }
+}
 
 // The same after an answer, of which a refusal is passed on.
+fn then_element(text: &[u8], before: Passed, part: XbmPart) -> Passed
+    ensures { λ r. ⌜ told r ≡ onto «before» (element (number part)) (now (text .entry)) ⌝ }
+{
+    match before {
+        Passed::To(p) => read_element(text, p, part),
+        Passed::Refused(q, at) => Passed::Refused(q, at),
+    }
+}
 
 // The line that opens the array.
+fn read_array_line(text: &[u8], place: TextLocation, name: &[u8], part: XbmPart) -> Passed
+    ensures { λ r. ⌜ told r ≡ arrayLine (number part) (now (name .entry)) (now (text .entry)) place ⌝ }
+{
+    let a = read_fixed_string(text, place, b"static", part);
+    let b = then_gap(text, a, part);
+    let c = then_element(text, b, part);
+    let d = then_gap(text, c, part);
+    let e = then_fixed(text, d, name, part);
+    let f = then_fixed(text, e, b"_bits[]", part);
+    let g = then_gap(text, f, part);
+    let h = then_fixed(text, g, b"=", part);
+    let i = then_gap(text, h, part);
+    then_fixed(text, i, b"{", part)
+}
 
 // The array line, and with it the header.
+fn read_ending(
+    text: &[u8],
+    place: TextLocation,
+    name: &[u8],
+    width: u32,
+    height: u32,
+    hotspot: Hotspot,
+) -> HeaderRead
+    ensures { λ r. ⌜ toldHeader (now (name .entry)) r ≡ shown (endingOf (now (name .entry)) width height (hotOf hotspot) (now (text .entry)) place) ⌝ }
+{
+    match read_array_line(text, place, name, XbmPart::Array) {
+        Passed::To(p) => HeaderRead::Read(
+            XbmHeaderData {
+                width: width,
+                height: height,
+                hotspot: hotspot,
+            },
+            p,
+        ),
+        Passed::Refused(q, at) => HeaderRead::Refused(XbmDecodeError::Parse(q, at)),
+    }
+}
 
 // What follows the height line: `#` opens the hotspot, `s` the array line.
+fn read_rest(
+    text: &[u8],
+    place: TextLocation,
+    name: &[u8],
+    width: u32,
+    height: u32,
+) -> HeaderRead
+    ensures { λ r. ⌜ toldHeader (now (name .entry)) r ≡ shown (restOf (now (name .entry)) width height (now (text .entry)) place) ⌝ }
+{
+    match take(text, place) {
+        Took::Next(b, next) => {
+            if b == b'#' {
+                return match read_hotspot(text, place, name) {
+                    HotspotRead::Spot(x, y, p) => {
+                        read_ending(text, p, name, width, height, Hotspot::At(x, y))
+                    }
+                    HotspotRead::Refused(e) => HeaderRead::Refused(e),
+                };
+            }
+            if b == b's' {
+                return read_ending(text, place, name, width, height, Hotspot::Absent);
+            }
+            HeaderRead::Refused(XbmDecodeError::Parse(XbmPart::Array, next))
+        }
+        Took::End => HeaderRead::Refused(XbmDecodeError::Parse(XbmPart::Array, place)),
+    }
+}
 
 // The height line and what follows it.
+fn read_height(text: &[u8], place: TextLocation, name: &[u8], width: u32) -> HeaderRead
+    ensures { λ r. ⌜ toldHeader (now (name .entry)) r ≡ shown (heightOf (now (name .entry)) width (now (text .entry)) place) ⌝ }
+{
+    match read_side_line(text, place, name, b"_height", XbmPart::Height) {
+        SideRead::Side(height, p) => {
+            if height == 0 {
+                return HeaderRead::Refused(XbmDecodeError::ZeroHeight);
+            }
+            read_rest(text, p, name, width, height)
+        }
+        SideRead::Refused(e) => HeaderRead::Refused(e),
+    }
+}
 
 // What follows the width's symbol.
+fn read_sides(text: &[u8], place: TextLocation, name: &[u8]) -> HeaderRead
+    ensures { λ r. ⌜ toldHeader (now (name .entry)) r ≡ shown (sidesOf (now (name .entry)) (now (text .entry)) place) ⌝ }
+{
+    match read_unsigned(text, place, XbmPart::Width) {
+        SideRead::Side(width, p) => {
+            if width == 0 {
+                return HeaderRead::Refused(XbmDecodeError::ZeroWidth);
+            }
+            read_height(text, p, name, width)
+        }
+        SideRead::Refused(e) => HeaderRead::Refused(e),
+    }
+}
 
 // Read the XBM file header up to and including the first opening brace.
+pub fn read_xbm_header(text: &[u8], name: &mut [u8]) -> HeaderAnswer
+    ensures { λ r. ⌜ Headed (now (text .entry)) (now (name .entry)) (now (name .exit)) r ⌝ }
+{
+    match read_width_symbol(text, name) {
+        Token::Read(n, p) => {
+            let header = read_sides(text, p, &name[..n]);
+            match header {
+                HeaderRead::Read(_, _) => HeaderAnswer {
+                    header: header,
+                    name: n,
+                },
+                HeaderRead::Refused(_) => HeaderAnswer {
+                    header: header,
+                    name: 0,
+                },
+            }
+        }
+        Token::Refused(q, at) => HeaderAnswer {
+            header: HeaderRead::Refused(XbmDecodeError::Parse(q, at)),
+            name: 0,
+        },
+    }
+}

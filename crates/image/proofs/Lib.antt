@@ -2,3 +2,4 @@ pub mod Group
 pub mod Stores
 pub mod Paint
 pub mod Going
+pub mod Whole

@@ -13,6 +13,7 @@ use Rattle.lexical.specs.Lexical.{number}
 use Rattle.lexical.specs.Token.{overlay}
 use Rattle.header.specs.declared.XbmDecodeError.{XbmDecodeError}
 use Rattle.header.specs.declared.XbmDecodeError.the-variants.{Parse, DecodeInteger, ZeroWidth, ZeroHeight}
+use Rattle.header.specs.declared.XbmHeaderData.{XbmHeaderData}
 use Rattle.header.specs.Header.{Head, header}
 use Rattle.header.specs.Answer.{headOf, numberOf, stored, nameLength}
 use Rattle.decoder.specs.Data.{logOf}
@@ -78,3 +79,8 @@ toldReading r name pixels = record { answer = toldImage (take (r .name) name) (r
 pub record Imaged (text name pixels name′ pixels′ : List ℕ) (r : ImageAnswer) : Type 0 where
   pub all : toldReading r name′ pixels′ ≡ reading text name pixels
   pub fits : r .name ≤ length name′
+
+-- reading what follows an accepted header d, from place p on
+pub record Pictured (d : XbmHeaderData) (t : List ℕ) (p : TextLocation) (lent later : List ℕ) (r : ImageRead) : Type 0 where
+  pub answer : (name : List ℕ) → toldImage name r ≡ outcome (λ (l : List ℕ). headOf name d) (whole (d .width) (d .height) (length lent) t p)
+  pub stored : later ≡ painted (d .width) (logOf (count (d .width) (d .height) (length lent)) true t p) lent

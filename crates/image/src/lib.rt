@@ -9,7 +9,7 @@ ghost use Rattle.image.specs.Cells.{ink};
 ghost use Rattle.image.specs.Stores.{dab};
 ghost use Rattle.image.specs.Quick.{Meets, hexTable};
 ghost use Rattle.image.specs.Rows.{Filled};
-ghost use Rattle.image.specs.Reading.{Imaged};
+ghost use Rattle.image.specs.Reading.{Pictured, Imaged};
 use decoder::read_data_byte;
 use decoder::read_trailer;
 use header::XbmDecodeError;
@@ -199,5 +199,22 @@ fn read_rows(
             Rows::Mismatch
         }
         Passed::Refused(part, p) => Rows::Refused(part, p),
+    }
+}
+
+// The rows of an accepted header, as the picture's answer; no side is zero.
+fn read_picture(
+    text: &[u8],
+    place: TextLocation,
+    header: XbmHeaderData,
+    pixels: &mut [u8],
+) -> ImageRead
+    requires { ⌜ (header .width ≡ 0 → ⊥) × (header .height ≡ 0 → ⊥) ⌝ }
+    ensures { λ r. ⌜ Pictured header (now (text .entry)) place (now (pixels .entry)) (now (pixels .exit)) r ⌝ }
+{
+    match read_rows(text, place, header.width, header.height, pixels) {
+        Rows::Done => ImageRead::Read(header),
+        Rows::Refused(part, p) => ImageRead::Refused(XbmDecodeError::Parse(part, p)),
+        Rows::Mismatch => ImageRead::DimensionMismatch,
     }
 }

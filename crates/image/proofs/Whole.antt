@@ -1,0 +1,226 @@
+-- The whole reading from its parts: a header read, and then the rows.
+use mathlib.Core.Path.{_≡_, refl, sym, ap, _∙_}
+use Prim.Native.Nat.{ℕ, zero, suc, _+_, _≤_, _<_, min}
+use native.Mathlib.Omega.{arith}
+use mathlib.Core.Option.{Option, none, some}
+use mathlib.Core.Bool.{Bool, true, false}
+use mathlib.Core.List.{List, [], _∷_}
+use lib.ListN.{length, take, length-take}
+use lib.Dec.{eqb}
+use borrow.Author.Tests.{eqb-false}
+use Rattle.text.specs.Ascii.{ascii}
+use Rattle.text.specs.declared.TextLocation.{TextLocation}
+use Rattle.text.specs.Place.{pick, start}
+use Rattle.text.specs.Reader.{Result, ok, stop, bad, then, Reader, _>>=_, _>>_, Told, accepted as told-ok, refused as told-refused, unplaced as told-none, shown}
+use Rattle.text.specs.Leaf.{give, need, fork, forkOf, choose}
+use Rattle.text.specs.Outcome.{Outcome, accepted, refused, unplaced, outcome}
+use Rattle.lexical.specs.declared.XbmPart.{XbmPart}
+use Rattle.lexical.specs.Lexical.{number}
+use Rattle.header.specs.declared.XbmDecodeError.{XbmDecodeError}
+use Rattle.header.specs.declared.XbmDecodeError.the-variants.{Parse, DecodeInteger, ZeroWidth, ZeroHeight}
+use Rattle.header.specs.declared.XbmHeaderData.{XbmHeaderData}
+use Rattle.header.specs.declared.HeaderRead.{HeaderRead}
+use Rattle.header.specs.declared.HeaderRead.the-variants.{Read as HeadRead, Refused as HeadRefused}
+use Rattle.header.specs.declared.HeaderAnswer.{HeaderAnswer}
+use Rattle.header.specs.Header.{Head, positive, ending, rest, widthLine, header}
+use Rattle.header.specs.Answer.{headOf, toldError, toldHeader, nameLength, stored, Headed}
+use Rattle.decoder.specs.Data.{logOf}
+use Rattle.image.specs.declared.Rows.{Rows}
+use Rattle.image.specs.declared.Rows.the-variants.{Done, Refused as RowsRefused, Mismatch}
+use Rattle.image.specs.declared.ImageRead.{ImageRead}
+use Rattle.image.specs.declared.ImageRead.the-variants.{Read, Refused, DimensionMismatch}
+use Rattle.image.specs.declared.ImageAnswer.{ImageAnswer}
+use Rattle.image.specs.Cells.{painted}
+use Rattle.image.specs.Rows.{toldRows, count, whole, Filled}
+use Rattle.image.specs.Reading.{picture, nameIn, cellsIn, Reading, reading, toldRefusal, toldImage, toldReading, Imaged, Pictured}
+
+-- ---- no side of an accepted header is zero
+
+-- every value that q gives is G
+pub record Yields {A : Type 0} (q : Reader A) (G : A → Type 0) : Type 0 where
+  pub yields : (t : List ℕ) (i : TextLocation) (b : A) (e : TextLocation) → q t i ≡ ok b e → G b
+
+yields-bind : {A B : Type 0} {p : Reader A} {f : A → Reader B} (K : A → Type 0) {G : B → Type 0} → Yields p K → ((a : A) → K a → Yields (f a) G) → Yields (p >>= f) G
+unfolding _>>=_
+yields-bind {A} {B} {p} {f} K {G} hp hf = record { yields = λ t i b e. go t i b e (p t i) refl }
+  where
+    go : (t : List ℕ) (i : TextLocation) (b : B) (e : TextLocation) (r : Result A) → p t i ≡ r → then r (λ a m. f a t m) ≡ ok b e → G b
+    go t i b e (ok a m) u q = hf a (hp .yields t i a m u) .yields t m b e q
+    go t i b e (stop c m) u q = let z : _≡_ {A = ℕ} 0 1 = cc in absurd (omega arith)
+    go t i b e (bad c m) u q = let z : _≡_ {A = ℕ} 0 1 = cc in absurd (omega arith)
+
+yields-any : {A : Type 0} {p : Reader A} → Yields p (λ a. Unit {0})
+yields-any = record { yields = λ t i b e q. tt }
+
+yields-after : {A B : Type 0} (p : Reader A) {f : A → Reader B} {G : B → Type 0} → ((a : A) → Yields (f a) G) → Yields (p >>= f) G
+yields-after p h = yields-bind (λ a. Unit {0}) yields-any (λ a u. h a)
+
+yields-give : {A : Type 0} (a : A) {G : A → Type 0} → G a → Yields (give a) G
+unfolding give
+yields-give a g = record { yields = λ t i b e q. (let z : a ≡ b = cc in rw z at g) }
+
+yields-fork : {A : Type 0} (c x : ℕ) {p : Reader A} (y : ℕ) {q : Reader A} {G : A → Type 0} → Yields p G → Yields q G → Yields (fork c x p y q) G
+unfolding fork
+yields-fork {A} c x {p} y {q} {G} hp hq = record { yields = λ t i b e. go t i b e (Rattle.text.specs.Place.rest t i) }
+  where
+    two : (t : List ℕ) (i n : TextLocation) (b : A) (e : TextLocation) (d z : Bool) → choose c n p q d z t i ≡ ok b e → G b
+    two t i n b e true z h = hp .yields t i b e h
+    two t i n b e false true h = hq .yields t i b e h
+    two t i n b e false false h = let z : _≡_ {A = ℕ} 0 1 = cc in absurd (omega arith)
+
+    go : (t : List ℕ) (i : TextLocation) (b : A) (e : TextLocation) (l : List ℕ) → forkOf c x p y q l t i ≡ ok b e → G b
+    go t i b e [] h = let z : _≡_ {A = ℕ} 0 1 = cc in absurd (omega arith)
+    go t i b e (a ∷ l) h = two t i (Rattle.text.specs.Place.after a i) b e (eqb a x) (eqb a y) h
+
+abbrev Some : ℕ → Type 0
+Some n = n ≡ 0 → ⊥
+
+yields-positive : (c v : ℕ) → Yields (need c (positive v)) Some
+unfolding need positive
+yields-positive c v = record { yields = λ t i b e q. go (eqb v 0) refl t i b e q }
+  where
+    go : (x : Bool) → eqb v 0 ≡ x → (t : List ℕ) (i : TextLocation) (b : ℕ) (e : TextLocation) → need c (pick x none (some v)) t i ≡ ok b e → Some b
+    go true h t i b e q = let z : _≡_ {A = ℕ} 0 1 = cc in absurd (omega arith)
+    go false h t i b e q = λ k. eqb-false v 0 h (let z : v ≡ b = cc in z ∙ k)
+
+abbrev Sides : Head → Type 0
+Sides h = Some (h .width) × Some (h .height)
+
+yields-rest : (name : List ℕ) (w h : ℕ) → Some w → Some h → Yields (rest name w h) Sides
+unfolding rest
+yields-rest name w h a b =
+    yields-fork 5 35 115 (yields-after _ (λ x. yields-after _ (λ y. yields-after _ (λ u. yields-give _ (a, b))))) (yields-after _ (λ u. yields-give _ (a, b)))
+
+yields-width : (limit : ℕ) → Yields (widthLine limit) (λ nw. Some (nw .1))
+unfolding widthLine
+yields-width limit =
+    yields-after _ (λ u. yields-after _ (λ u. yields-after _ (λ s. yields-after _ (λ name. yields-after _ (λ u. yields-after _ (λ w. yields-after _ (λ u. yields-after _ (λ v. yields-bind Some (yields-positive 21 v) (λ n k. yields-give (name, n) k)))))))))
+
+yields-header : (limit : ℕ) → Yields (header limit) Sides
+unfolding header
+yields-header limit =
+    yields-after _ (λ u. yields-bind (λ nw. Some (nw .1)) (yields-width limit) (λ nw a. yields-bind Some
+    (yields-after _ (λ u. yields-after _ (λ u. yields-after _ (λ u. yields-after _ (λ u. yields-after _ (λ u. yields-after _ (λ w. yields-after _ (λ u. yields-after _ (λ v. yields-positive 22 v)))))))))
+    (λ h b. yields-rest (nw .0) (nw .1) h a b)))
+
+-- ---- what the header's answer says of the header
+
+module _ {r : Result Head} where
+  accepted-is : {h : Head} {p : TextLocation} → told-ok h p ≡ shown r → r ≡ ok h p
+  accepted-is {h} {p} = go r
+    where
+      go : (r : Result Head) → told-ok h p ≡ shown r → r ≡ ok h p
+      go (ok a e) q = cc
+      go (stop c e) q = let z : _≡_ {A = ℕ} 0 1 = cc in absurd (omega arith)
+      go (bad c e) q = let z : _≡_ {A = ℕ} 0 1 = cc in absurd (omega arith)
+
+module _ (t name name′ : List ℕ) {h : HeaderAnswer} (k : Headed t name name′ h) where
+  module _ {d : XbmHeaderData} {p : TextLocation} (e : h .header ≡ HeadRead d p) where
+    head-is : header (length name) t start ≡ ok (headOf (take (h .name) name′) d) p
+    head-is = accepted-is (rw e at (k .answer))
+
+    pub head-sides : (d .width ≡ 0 → ⊥) × (d .height ≡ 0 → ⊥)
+    head-sides = yields-header (length name) .yields t start (headOf (take (h .name) name′) d) p head-is
+
+    name-fits : h .name ≤ length name′
+    name-fits = omega (arith, k .size ∙ ap nameLength head-is, length-take (h .name) name′)
+
+same-reading : (a b : Reading) → a .answer ≡ b .answer → a .name ≡ b .name → a .symbol ≡ b .symbol → a .pixels ≡ b .pixels → a ≡ b
+same-reading a b p q r s =
+    ap (λ (x : Outcome Head). record { answer = x; name = a .name; symbol = a .symbol; pixels = a .pixels }) p
+    ∙ ap (λ (x : List ℕ). record { answer = b .answer; name = x; symbol = a .symbol; pixels = a .pixels }) q
+    ∙ ap (λ (x : List ℕ). record { answer = b .answer; name = b .name; symbol = x; pixels = a .pixels }) r
+    ∙ ap (λ (x : List ℕ). record { answer = b .answer; name = b .name; symbol = b .symbol; pixels = x }) s
+
+-- ---- the two ways through
+
+module _ (t name name′ lent : List ℕ) {h : HeaderAnswer} (k : Headed t name name′ h) where
+  pub image-read : {later : List ℕ} {d : XbmHeaderData} {p : TextLocation} {r : ImageRead} → h .header ≡ HeadRead d p → Pictured d t p lent later r
+      → Imaged t name lent name′ later (record { image = r; name = h .name })
+  unfolding reading picture _>>=_ give
+  image-read {later} {d} {p} {r} e m =
+      record {
+        all = same-reading _ _ (m .answer (take (h .name) name′) ∙ rw (head-is t name name′ k e) (go (whole (d .width) (d .height) (length lent) t p))) (rw (head-is t name name′ k e)) (k .symbol) (rw (head-is t name name′ k e) (m .stored));
+        fits = name-fits t name name′ k e;
+      }
+    where
+      go : (x : Result (List ℕ)) → outcome (λ (l : List ℕ). headOf (take (h .name) name′) d) x ≡ outcome (λ (p : Head × List ℕ). p .0) (then x (λ l e. ok (headOf (take (h .name) name′) d, l) e))
+      go (ok l e) = refl
+      go (stop c e) = refl
+      go (bad c e) = refl
+
+  pub image-refused : {x : XbmDecodeError} → h .header ≡ HeadRefused x → Imaged t name lent name′ lent (record { image = Refused x; name = h .name })
+  unfolding reading picture _>>=_
+  image-refused {x} e =
+      record { all = same-reading _ _ (go (header (length name) t start) x said) (named (header (length name) t start) x said (k .size)) (k .symbol) (kept (header (length name) t start) x said); fits = less (header (length name) t start) x said (k .size) }
+    where
+      said : toldError x ≡ shown (header (length name) t start)
+      said = rw e at (k .answer)
+
+      never : {C : Type 0} (x : XbmDecodeError) {a : Head} {p : TextLocation} → toldError x ≡ told-ok a p → C
+      never (Parse part q) w = let z : _≡_ {A = ℕ} 0 1 = cc in absurd (omega arith)
+      never (DecodeInteger part) w = let z : _≡_ {A = ℕ} 0 1 = cc in absurd (omega arith)
+      never ZeroWidth w = let z : _≡_ {A = ℕ} 0 1 = cc in absurd (omega arith)
+      never ZeroHeight w = let z : _≡_ {A = ℕ} 0 1 = cc in absurd (omega arith)
+
+      turn : Told Head → Outcome Head
+      turn (told-ok a p) = accepted a
+      turn (told-refused c p) = refused c p
+      turn (told-none c) = unplaced c
+
+      turned : (x : XbmDecodeError) → toldRefusal x ≡ turn (toldError x)
+      turned (Parse part q) = refl
+      turned (DecodeInteger part) = refl
+      turned ZeroWidth = refl
+      turned ZeroHeight = refl
+
+      go : (r : Result Head) (x : XbmDecodeError) → toldError x ≡ shown r
+          → toldRefusal x ≡ outcome (λ (p : Head × List ℕ). p .0) (then r (λ a m. then (whole (a .width) (a .height) (length lent) t m) (λ l e. give (a, l) t e)))
+      go (ok a m) x w = never x w
+      go (stop c m) x w = turned x ∙ ap turn w
+      go (bad c m) x w = turned x ∙ ap turn w
+
+      named : (r : Result Head) (x : XbmDecodeError) → toldError x ≡ shown r → h .name ≡ nameLength r → take (h .name) name′ ≡ nameIn r
+      named (ok a m) x w s = never x w
+      named (stop c m) x w s = rw s
+      named (bad c m) x w s = rw s
+
+      kept : (r : Result Head) (x : XbmDecodeError) → toldError x ≡ shown r → lent ≡ cellsIn r lent t
+      kept (ok a m) x w = never x w
+      kept (stop c m) x w = refl
+      kept (bad c m) x w = refl
+
+      less : (r : Result Head) (x : XbmDecodeError) → toldError x ≡ shown r → h .name ≡ nameLength r → h .name ≤ length name′
+      less (ok a m) x w s = never x w
+      less (stop c m) x w s = omega arith
+      less (bad c m) x w s = omega arith
+
+pub ruleset image·laws = (image-read, image-refused, head-sides)
+
+-- ---- the rows' answer, for an accepted header
+
+abbrev said : XbmHeaderData → List ℕ → Outcome (Unit {0}) → Outcome Head
+said d name (accepted u) = accepted (headOf name d)
+said d name (refused c e) = refused c e
+said d name (unplaced c) = unplaced c
+
+module _ (d : XbmHeaderData) (t : List ℕ) (p : TextLocation) (lent later : List ℕ) {m : Rows} (k : Filled (d .width) (d .height) t p lent later m) where
+  pictured : (r : ImageRead) (n : Rows) → m ≡ n → ((name : List ℕ) → toldImage name r ≡ said d name (toldRows n)) → Pictured d t p lent later r
+  pictured r n e h =
+      record { answer = λ name. h name ∙ ap (λ (x : Rows). said d name (toldRows x)) (sym e) ∙ ap (said d name) (k .answer) ∙ go name (whole (d .width) (d .height) (length lent) t p); stored = k .stored }
+    where
+      go : (name : List ℕ) (x : Result (List ℕ)) → said d name (outcome (λ l. tt) x) ≡ outcome (λ (l : List ℕ). headOf name d) x
+      go name (ok l e) = refl
+      go name (stop c e) = refl
+      go name (bad c e) = refl
+
+  pub pictured-done : m ≡ Done → Pictured d t p lent later (Read d)
+  pictured-done e = pictured (Read d) Done e (λ name. refl)
+
+  pub pictured-refused : {part : XbmPart} {q : TextLocation} → m ≡ RowsRefused part q → Pictured d t p lent later (Refused (Parse part q))
+  pictured-refused {part} {q} e = pictured (Refused (Parse part q)) (RowsRefused part q) e (λ name. refl)
+
+  pub pictured-mismatch : m ≡ Mismatch → Pictured d t p lent later DimensionMismatch
+  pictured-mismatch e = pictured DimensionMismatch Mismatch e (λ name. refl)
+
+pub ruleset pictured·laws = (pictured-done, pictured-refused, pictured-mismatch)
