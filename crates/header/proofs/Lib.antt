@@ -1,3 +1,4 @@
 pub mod Ends
 pub mod Told
+pub mod Parts
 pub mod Laws

@@ -1,5 +1,5 @@
 use Rattle.header.proofs.Told.{shown·laws}
-use Rattle.header.proofs.Laws.{value·laws}
+use Rattle.header.proofs.Laws.{size·laws}
 use Rattle.header.specs.Answer.{signedLine}
 use borrow.Author.Needs.{needs}
 use Rattle.header.proofs.read_signed.Statement.{statement}
@@ -19,11 +19,11 @@ enum-known-n c = search needs
 
 -- src/lib.rt:166:49
 array-share-prefix-digits : tie.Need-array-share-prefix-digits
-array-share-prefix-digits c = search (value·laws, needs)
+array-share-prefix-digits c = search (size·laws, needs)
 
 -- src/lib.rt:166:49
 slice-aggregate-parse-i32 : tie.Need-slice-aggregate-parse-i32
-slice-aggregate-parse-i32 c = search (value·laws, needs)
+slice-aggregate-parse-i32 c = search (size·laws, needs)
 
 -- src/lib.rt:166:39
 parse-i32-requires : tie.Need-parse-i32-requires

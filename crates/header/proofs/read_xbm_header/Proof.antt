@@ -1,3 +1,4 @@
+use Rattle.header.proofs.Laws.{header·laws}
 use borrow.Author.Needs.{needs}
 use Rattle.header.proofs.read_xbm_header.Statement.{statement}
 use Rattle.header.proofs.read_xbm_header.Tie as tie
@@ -16,11 +17,11 @@ enum-known-n c = search needs
 
 -- src/lib.rt:372:46
 slice-reshare-prefix-read-sides : tie.Need-slice-reshare-prefix-read-sides
-slice-reshare-prefix-read-sides c = ?
+slice-reshare-prefix-read-sides c = search (header·laws, needs)
 
 -- src/lib.rt:372:46
 slice-aggregate-read-sides : tie.Need-slice-aggregate-read-sides
-slice-aggregate-read-sides c = ?
+slice-aggregate-read-sides c = search (header·laws, needs)
 
 -- src/lib.rt:372:17
 read-sides-requires : tie.Need-read-sides-requires
@@ -44,7 +45,7 @@ same-length c = search needs
 
 -- src/lib.rt:367:1
 returns : tie.Need-returns
-returns c = ?
+returns c = search (header·laws, needs)
 
 -- src/lib.rt:367:1
 same-length-2 : tie.Need-same-length-2
@@ -52,7 +53,7 @@ same-length-2 c = search needs
 
 -- src/lib.rt:367:1
 returns-2 : tie.Need-returns-2
-returns-2 c = ?
+returns-2 c = search (header·laws, needs)
 
 -- src/lib.rt:367:1
 same-length-3 : tie.Need-same-length-3
@@ -60,7 +61,7 @@ same-length-3 c = search needs
 
 -- src/lib.rt:367:1
 returns-3 : tie.Need-returns-3
-returns-3 c = ?
+returns-3 c = search (header·laws, needs)
 
 pub read-xbm-header-spec : {M : Type 1} → statement M
 read-xbm-header-spec =
