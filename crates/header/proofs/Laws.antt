@@ -1,7 +1,7 @@
 -- What a step of the code says of the width's symbol and of the header.
 use Prim.Native.Nat.{ℕ, _-_, _≤_}
 use native.Mathlib.Omega.{arith}
-use mathlib.Core.Path.{_≡_, refl, sym, ap, _∙_}
+use mathlib.Core.Path.{_≡_, refl, sym}
 use mathlib.Core.List.{List}
 use mathlib.Core.Bool.{Bool, true, false}
 use lib.ListN.{length, take}
@@ -16,10 +16,11 @@ use Rattle.lexical.specs.declared.Passed.{Passed}
 use Rattle.lexical.specs.declared.Passed.the-variants.{To, Refused as Stopped}
 use Rattle.lexical.specs.declared.Token.{Token}
 use Rattle.lexical.specs.declared.Token.the-variants.{Read, Refused as Long}
-use Rattle.lexical.specs.Lexical.{isLoose, number, told, onto}
+use Rattle.lexical.specs.Lexical.{isLoose, told, onto}
 use Rattle.lexical.specs.Token.{Tokened, sizeOf}
-use Rattle.lexical.proofs.Laws.{row-first}
-use Rattle.lexical.proofs.Tokens.{token-fits, token-size}
+use Rattle.text.proofs.Reading.{give-ok}
+use Rattle.lexical.proofs.Laws.{row-first, pass-to, pass-refused}
+use Rattle.lexical.proofs.Tokens.{token-fits, token-size, token·laws}
 use Rattle.header.specs.Header.{Head, endWidth, endsWith, before, opening, header}
 use Rattle.header.specs.Answer.{toldError, toldHeader, nameLength, stored, sidesOf, widthSymbol, Symboled, Headed}
 use Rattle.header.specs.declared.XbmDecodeError.{XbmDecodeError}
@@ -67,6 +68,9 @@ pub symbol-six : {t : List ℕ} {a : TextLocation} {lent later : List ℕ} {r : 
 symbol-six k h v u = rw (token-size 1 k h) (ends-long _ endWidth v u)
 
 pub ruleset symbol·laws = (symbol-refused, symbol-long, symbol-named, symbol-other, symbol-six, token-fits, token-size)
+
+-- an integer's token and the line's end
+pub ruleset value·laws = (pass-to, pass-refused, give-ok, token·laws)
 
 -- what was stored is within the buffer
 module _ (m : Token) (later : List ℕ) (e : sizeOf m ≤ length later) {n : ℕ} {q : TextLocation} (h : m ≡ Read n q) where

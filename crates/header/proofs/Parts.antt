@@ -1,7 +1,6 @@
 -- The code's parts of the header, one after another, are the header.
 use Prim.Native.Nat.{ℕ}
 use mathlib.Core.Path.{_≡_, refl, fun-ext}
-use mathlib.Core.List.{List}
 use Rattle.text.specs.declared.TextLocation.{TextLocation}
 use Rattle.text.specs.Reader.{Result, ok, stop, bad, Reader, then, _>>=_}
 use Rattle.text.specs.Leaf.{give}

@@ -1,72 +1,52 @@
+-- `read_array_line` meets its contract. A row of ten readings.
 use Rattle.lexical.proofs.Laws.{row·laws}
 use Rattle.header.specs.Header.{arrayLine}
 use borrow.Author.Needs.{needs}
 use Rattle.header.proofs.read_array_line.Statement.{statement}
 use Rattle.header.proofs.read_array_line.Tie as tie
-use Rattle.header.proofs.read_array_line.Reads as reads
-use Rattle.header.proofs.read_array_line.Lts as lts
-use Rattle.header.proofs.then_element.Reads as then-element-reads
-use Rattle.lexical.proofs.read_fixed_string.Reads as read-fixed-string-reads
-use Rattle.lexical.proofs.then_fixed.Reads as then-fixed-reads
-use Rattle.lexical.proofs.then_gap.Reads as then-gap-reads
 
--- src/lib.rt:271:44
 slice-aggregate-read-fixed-string : tie.Need-slice-aggregate-read-fixed-string
 slice-aggregate-read-fixed-string c = search needs
 
--- src/lib.rt:271:9
 read-fixed-string-requires : tie.Need-read-fixed-string-requires
 read-fixed-string-requires c κs = search needs
 
--- src/lib.rt:272:9
 then-gap-requires : tie.Need-then-gap-requires
 then-gap-requires c κs = search needs
 
--- src/lib.rt:273:9
 then-element-requires : tie.Need-then-element-requires
 then-element-requires c κs = search needs
 
--- src/lib.rt:274:9
 then-gap-requires-2 : tie.Need-then-gap-requires-2
 then-gap-requires-2 c κs = search needs
 
--- src/lib.rt:275:9
 then-fixed-requires : tie.Need-then-fixed-requires
 then-fixed-requires c κs = search needs
 
--- src/lib.rt:276:33
 slice-aggregate-then-fixed : tie.Need-slice-aggregate-then-fixed
 slice-aggregate-then-fixed c = search needs
 
--- src/lib.rt:276:9
 then-fixed-requires-2 : tie.Need-then-fixed-requires-2
 then-fixed-requires-2 c κs = search needs
 
--- src/lib.rt:277:9
 then-gap-requires-3 : tie.Need-then-gap-requires-3
 then-gap-requires-3 c κs = search needs
 
--- src/lib.rt:278:33
 slice-aggregate-then-fixed-2 : tie.Need-slice-aggregate-then-fixed-2
 slice-aggregate-then-fixed-2 c = search needs
 
--- src/lib.rt:278:9
 then-fixed-requires-3 : tie.Need-then-fixed-requires-3
 then-fixed-requires-3 c κs = search needs
 
--- src/lib.rt:279:9
 then-gap-requires-4 : tie.Need-then-gap-requires-4
 then-gap-requires-4 c κs = search needs
 
--- src/lib.rt:280:25
 slice-aggregate-then-fixed-3 : tie.Need-slice-aggregate-then-fixed-3
 slice-aggregate-then-fixed-3 c = search needs
 
--- src/lib.rt:280:5
 then-fixed-requires-4 : tie.Need-then-fixed-requires-4
 then-fixed-requires-4 c κs = search needs
 
--- src/lib.rt:268:1
 returns : tie.Need-returns
 unfolding arrayLine
 returns c = search (row·laws, needs) depth 24

@@ -1,35 +1,26 @@
+-- `read_coordinate_line` meets its contract. The symbol, then the integer.
 use Rattle.header.proofs.Told.{shown·laws}
 use Rattle.header.specs.Answer.{coordinateLine}
 use borrow.Author.Needs.{needs}
 use Rattle.header.proofs.read_coordinate_line.Statement.{statement}
 use Rattle.header.proofs.read_coordinate_line.Tie as tie
-use Rattle.header.proofs.read_coordinate_line.Reads as reads
-use Rattle.header.proofs.read_coordinate_line.Lts as lts
-use Rattle.header.proofs.read_signed.Reads as read-signed-reads
-use Rattle.header.proofs.read_symbol.Reads as read-symbol-reads
 
--- src/lib.rt:216:11
 read-symbol-requires : tie.Need-read-symbol-requires
 read-symbol-requires c κs = search needs
 
--- src/lib.rt:217:20
 enum-known-p : tie.Need-enum-known-p
 enum-known-p c = search needs
 
--- src/lib.rt:217:26
 read-signed-requires : tie.Need-read-signed-requires
 read-signed-requires c κs = search needs
 
--- src/lib.rt:218:25
 enum-known-q : tie.Need-enum-known-q
 enum-known-q c = search needs
 
--- src/lib.rt:207:1
 returns : tie.Need-returns
 unfolding coordinateLine
 returns c = search (shown·laws, needs)
 
--- src/lib.rt:207:1
 returns-2 : tie.Need-returns-2
 unfolding coordinateLine
 returns-2 c = search (shown·laws, needs)

@@ -1,44 +1,33 @@
+-- `read_height` meets its contract. The line, its value, and what follows.
 use Rattle.header.proofs.Told.{shown·laws}
 use Rattle.header.specs.Answer.{heightOf}
 use borrow.Author.Needs.{needs}
 use Rattle.header.proofs.read_height.Statement.{statement}
 use Rattle.header.proofs.read_height.Tie as tie
-use Rattle.header.proofs.read_height.Reads as reads
-use Rattle.header.proofs.read_height.Lts as lts
-use Rattle.header.proofs.read_rest.Reads as read-rest-reads
-use Rattle.header.proofs.read_side_line.Reads as read-side-line-reads
 
--- src/lib.rt:340:45
 slice-aggregate-read-side-line : tie.Need-slice-aggregate-read-side-line
 slice-aggregate-read-side-line c = search needs
 
--- src/lib.rt:340:11
 read-side-line-requires : tie.Need-read-side-line-requires
 read-side-line-requires c κs = search needs
 
--- src/lib.rt:341:24
 enum-known-height : tie.Need-enum-known-height
 enum-known-height c = search needs
 
--- src/lib.rt:343:17
 returns : tie.Need-returns
 unfolding heightOf
 returns c = search (shown·laws, needs)
 
--- src/lib.rt:345:13
 read-rest-requires : tie.Need-read-rest-requires
 read-rest-requires c κs = search needs
 
--- src/lib.rt:347:27
 enum-known-e : tie.Need-enum-known-e
 enum-known-e c = search needs
 
--- src/lib.rt:337:1
 returns-2 : tie.Need-returns-2
 unfolding heightOf
 returns-2 c = search (shown·laws, needs)
 
--- src/lib.rt:337:1
 returns-3 : tie.Need-returns-3
 unfolding heightOf
 returns-3 c = search (shown·laws, needs)

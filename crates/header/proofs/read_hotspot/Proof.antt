@@ -1,55 +1,42 @@
+-- `read_hotspot` meets its contract. One line after the other.
 use Rattle.header.proofs.Told.{shown·laws}
 use Rattle.header.specs.Answer.{spot}
 use borrow.Author.Needs.{needs}
 use Rattle.header.proofs.read_hotspot.Statement.{statement}
 use Rattle.header.proofs.read_hotspot.Tie as tie
-use Rattle.header.proofs.read_hotspot.Reads as reads
-use Rattle.header.proofs.read_hotspot.Lts as lts
-use Rattle.header.proofs.read_coordinate_line.Reads as read-coordinate-line-reads
 
--- src/lib.rt:226:51
 slice-aggregate-read-coordinate-line : tie.Need-slice-aggregate-read-coordinate-line
 slice-aggregate-read-coordinate-line c = search needs
 
--- src/lib.rt:226:11
 read-coordinate-line-requires : tie.Need-read-coordinate-line-requires
 read-coordinate-line-requires c κs = search needs
 
--- src/lib.rt:227:36
 enum-known-x : tie.Need-enum-known-x
 enum-known-x c = search needs
 
--- src/lib.rt:228:55
 slice-aggregate-read-coordinate-line-2 : tie.Need-slice-aggregate-read-coordinate-line-2
 slice-aggregate-read-coordinate-line-2 c = search needs
 
--- src/lib.rt:228:19
 read-coordinate-line-requires-2 : tie.Need-read-coordinate-line-requires-2
 read-coordinate-line-requires-2 c κs = search needs
 
--- src/lib.rt:229:44
 enum-known-y : tie.Need-enum-known-y
 enum-known-y c = search needs
 
--- src/lib.rt:230:41
 enum-known-e : tie.Need-enum-known-e
 enum-known-e c = search needs
 
--- src/lib.rt:233:33
 enum-known-e-2 : tie.Need-enum-known-e-2
 enum-known-e-2 c = search needs
 
--- src/lib.rt:223:1
 returns : tie.Need-returns
 unfolding spot
 returns c = search (shown·laws, needs)
 
--- src/lib.rt:223:1
 returns-2 : tie.Need-returns-2
 unfolding spot
 returns-2 c = search (shown·laws, needs)
 
--- src/lib.rt:223:1
 returns-3 : tie.Need-returns-3
 unfolding spot
 returns-3 c = search (shown·laws, needs)

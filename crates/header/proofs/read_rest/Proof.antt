@@ -1,67 +1,50 @@
+-- `read_rest` meets its contract. A look at the next byte; with `#`, the hotspot first.
 use Rattle.header.proofs.Told.{shown·laws}
 use Rattle.header.specs.Answer.{restOf}
 use borrow.Author.Needs.{needs}
 use Rattle.header.proofs.read_rest.Statement.{statement}
 use Rattle.header.proofs.read_rest.Tie as tie
-use Rattle.header.proofs.read_rest.Reads as reads
-use Rattle.header.proofs.read_rest.Lts as lts
-use Rattle.header.proofs.read_ending.Reads as read-ending-reads
-use Rattle.header.proofs.read_hotspot.Reads as read-hotspot-reads
-use Rattle.text.proofs.take.Reads as take-reads
 
--- src/lib.rt:317:11
 take-requires : tie.Need-take-requires
 take-requires c κs = search needs
 
--- src/lib.rt:318:20
 enum-known-b : tie.Need-enum-known-b
 enum-known-b c = search needs
 
--- src/lib.rt:320:30
 read-hotspot-requires : tie.Need-read-hotspot-requires
 read-hotspot-requires c κs = search needs
 
--- src/lib.rt:321:39
 enum-known-x : tie.Need-enum-known-x
 enum-known-x c = search needs
 
--- src/lib.rt:322:25
 read-ending-requires : tie.Need-read-ending-requires
 read-ending-requires c κs = search needs
 
--- src/lib.rt:324:42
 enum-known-e : tie.Need-enum-known-e
 enum-known-e c = search needs
 
--- src/lib.rt:320:17
 returns : tie.Need-returns
 unfolding restOf
 returns c = search (shown·laws, needs)
 
--- src/lib.rt:320:17
 returns-2 : tie.Need-returns-2
 unfolding restOf
 returns-2 c = search (shown·laws, needs)
 
--- src/lib.rt:328:17
 read-ending-requires-2 : tie.Need-read-ending-requires-2
 read-ending-requires-2 c κs = search needs
 
--- src/lib.rt:328:17
 returns-3 : tie.Need-returns-3
 unfolding restOf
 returns-3 c = search (shown·laws, needs)
 
--- src/lib.rt:332:64
 enum-told : tie.Need-enum-told
 enum-told c = search needs
 
--- src/lib.rt:308:1
 returns-4 : tie.Need-returns-4
 unfolding restOf
 returns-4 c = search (shown·laws, needs)
 
--- src/lib.rt:308:1
 returns-5 : tie.Need-returns-5
 unfolding restOf
 returns-5 c = search (shown·laws, needs)

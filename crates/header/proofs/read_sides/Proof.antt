@@ -1,40 +1,30 @@
+-- `read_sides` meets its contract. The line, its value, and what follows.
 use Rattle.header.proofs.Told.{shown·laws}
 use Rattle.header.specs.Answer.{sidesOf}
 use borrow.Author.Needs.{needs}
 use Rattle.header.proofs.read_sides.Statement.{statement}
 use Rattle.header.proofs.read_sides.Tie as tie
-use Rattle.header.proofs.read_sides.Reads as reads
-use Rattle.header.proofs.read_sides.Lts as lts
-use Rattle.header.proofs.read_height.Reads as read-height-reads
-use Rattle.header.proofs.read_unsigned.Reads as read-unsigned-reads
 
--- src/lib.rt:355:11
 read-unsigned-requires : tie.Need-read-unsigned-requires
 read-unsigned-requires c κs = search needs
 
--- src/lib.rt:356:24
 enum-known-width : tie.Need-enum-known-width
 enum-known-width c = search needs
 
--- src/lib.rt:358:17
 returns : tie.Need-returns
 unfolding sidesOf
 returns c = search (shown·laws, needs)
 
--- src/lib.rt:360:13
 read-height-requires : tie.Need-read-height-requires
 read-height-requires c κs = search needs
 
--- src/lib.rt:362:27
 enum-known-e : tie.Need-enum-known-e
 enum-known-e c = search needs
 
--- src/lib.rt:352:1
 returns-2 : tie.Need-returns-2
 unfolding sidesOf
 returns-2 c = search (shown·laws, needs)
 
--- src/lib.rt:352:1
 returns-3 : tie.Need-returns-3
 unfolding sidesOf
 returns-3 c = search (shown·laws, needs)

@@ -1,57 +1,43 @@
+-- `read_signed` meets its contract. The token is within the digits; then its value or a refusal that tells no place.
 use Rattle.header.proofs.Told.{shown·laws}
 use Rattle.header.proofs.Laws.{size·laws}
 use Rattle.header.specs.Answer.{signedLine}
 use borrow.Author.Needs.{needs}
 use Rattle.header.proofs.read_signed.Statement.{statement}
 use Rattle.header.proofs.read_signed.Tie as tie
-use Rattle.header.proofs.read_signed.Reads as reads
-use Rattle.header.proofs.read_signed.Lts as lts
-use Rattle.header.proofs.read_value.Reads as read-value-reads
-use Rattle.integer.proofs.parse_i32.Reads as parse-i32-reads
 
--- src/lib.rt:165:11
 read-value-requires : tie.Need-read-value-requires
 read-value-requires c κs = search needs
 
--- src/lib.rt:166:21
 enum-known-n : tie.Need-enum-known-n
 enum-known-n c = search needs
 
--- src/lib.rt:166:49
 array-share-prefix-digits : tie.Need-array-share-prefix-digits
 array-share-prefix-digits c = search (size·laws, needs)
 
--- src/lib.rt:166:49
 slice-aggregate-parse-i32 : tie.Need-slice-aggregate-parse-i32
 slice-aggregate-parse-i32 c = search (size·laws, needs)
 
--- src/lib.rt:166:39
 parse-i32-requires : tie.Need-parse-i32-requires
 parse-i32-requires c κs = search needs
 
--- src/lib.rt:167:28
 enum-known-v : tie.Need-enum-known-v
 enum-known-v c = search needs
 
--- src/lib.rt:168:54
 enum-told : tie.Need-enum-told
 enum-told c = search needs
 
--- src/lib.rt:170:24
 enum-known-q : tie.Need-enum-known-q
 enum-known-q c = search needs
 
--- src/lib.rt:161:1
 returns : tie.Need-returns
 unfolding signedLine
 returns c = search (shown·laws, needs)
 
--- src/lib.rt:161:1
 returns-2 : tie.Need-returns-2
 unfolding signedLine
 returns-2 c = search (shown·laws, needs)
 
--- src/lib.rt:161:1
 returns-3 : tie.Need-returns-3
 unfolding signedLine
 returns-3 c = search (shown·laws, needs)

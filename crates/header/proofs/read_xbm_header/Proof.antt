@@ -1,65 +1,48 @@
+-- `read_xbm_header` meets its contract. The width's symbol and then the sides are the header, by `parts`; a refused header hands back no name.
 use Rattle.header.proofs.Laws.{header·laws}
 use borrow.Author.Needs.{needs}
 use Rattle.header.proofs.read_xbm_header.Statement.{statement}
 use Rattle.header.proofs.read_xbm_header.Tie as tie
-use Rattle.header.proofs.read_xbm_header.Reads as reads
-use Rattle.header.proofs.read_xbm_header.Lts as lts
-use Rattle.header.proofs.read_sides.Reads as read-sides-reads
-use Rattle.header.proofs.read_width_symbol.Reads as read-width-symbol-reads
 
--- src/lib.rt:370:11
 read-width-symbol-requires : tie.Need-read-width-symbol-requires
 read-width-symbol-requires c κs = search needs
 
--- src/lib.rt:371:21
 enum-known-n : tie.Need-enum-known-n
 enum-known-n c = search needs
 
--- src/lib.rt:372:46
 slice-reshare-prefix-read-sides : tie.Need-slice-reshare-prefix-read-sides
 slice-reshare-prefix-read-sides c = search (header·laws, needs)
 
--- src/lib.rt:372:46
 slice-aggregate-read-sides : tie.Need-slice-aggregate-read-sides
 slice-aggregate-read-sides c = search (header·laws, needs)
 
--- src/lib.rt:372:17
 read-sides-requires : tie.Need-read-sides-requires
 read-sides-requires c κs = search needs
 
--- src/lib.rt:374:43
 enum-told : tie.Need-enum-told
 enum-told c = search needs
 
--- src/lib.rt:378:43
 enum-told-2 : tie.Need-enum-told-2
 enum-told-2 c = search needs
 
--- src/lib.rt:384:24
 enum-known-q : tie.Need-enum-known-q
 enum-known-q c = search needs
 
--- src/lib.rt:367:1
 same-length : tie.Need-same-length
 same-length c = search needs
 
--- src/lib.rt:367:1
 returns : tie.Need-returns
 returns c = search (header·laws, needs)
 
--- src/lib.rt:367:1
 same-length-2 : tie.Need-same-length-2
 same-length-2 c = search needs
 
--- src/lib.rt:367:1
 returns-2 : tie.Need-returns-2
 returns-2 c = search (header·laws, needs)
 
--- src/lib.rt:367:1
 same-length-3 : tie.Need-same-length-3
 same-length-3 c = search needs
 
--- src/lib.rt:367:1
 returns-3 : tie.Need-returns-3
 returns-3 c = search (header·laws, needs)
 
