@@ -78,10 +78,10 @@ stored limit t = storedIn limit t (opening t start)
 -- ---- the header's parts, as the code reads them
 
 unfoldable pub unsignedLine : ℕ → Reader ℕ
-unsignedLine c = value c (unsigned (c + 10))
+unsignedLine c = value c give >>= unsigned (c + 10)
 
 unfoldable pub signedLine : ℕ → Reader ℤ
-signedLine c = value c (signed (c + 10))
+signedLine c = value c give >>= signed (c + 10)
 
 unfoldable pub sideLine : ℕ → List ℕ → List ℕ → Reader ℕ
 sideLine c name z = symbol c name z >> unsignedLine c

@@ -1,2 +1,3 @@
 pub mod Header
 pub mod Answer
+pub mod Examples

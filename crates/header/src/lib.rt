@@ -305,13 +305,7 @@ fn read_ending(
 }
 
 // What follows the height line: `#` opens the hotspot, `s` the array line.
-fn read_rest(
-    text: &[u8],
-    place: TextLocation,
-    name: &[u8],
-    width: u32,
-    height: u32,
-) -> HeaderRead
+fn read_rest(text: &[u8], place: TextLocation, name: &[u8], width: u32, height: u32) -> HeaderRead
     ensures { λ r. ⌜ toldHeader (now (name .entry)) r ≡ shown (restOf (now (name .entry)) width height (now (text .entry)) place) ⌝ }
 {
     match take(text, place) {

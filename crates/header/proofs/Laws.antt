@@ -1,0 +1,122 @@
+-- What a step of the code says of the width's symbol and of the header.
+use Prim.Native.Nat.{ℕ, _-_, _≤_}
+use native.Mathlib.Omega.{arith}
+use mathlib.Core.Path.{_≡_, refl, sym}
+use mathlib.Core.List.{List}
+use mathlib.Core.Bool.{Bool, true, false}
+use lib.ListN.{length, take}
+use lib.Seq.{length-take-le, take-take}
+use Rattle.text.specs.declared.TextLocation.{TextLocation}
+use Rattle.text.specs.Place.{start}
+use Rattle.text.specs.Reader.{Result, ok, stop, bad, Reader, _>>=_, _>>_, Told, accepted, refused, unplaced, shown}
+use Rattle.text.specs.Leaf.{want}
+use Rattle.lexical.specs.declared.XbmPart.{XbmPart}
+use Rattle.lexical.specs.declared.XbmPart.the-variants.{Width}
+use Rattle.lexical.specs.declared.Passed.{Passed}
+use Rattle.lexical.specs.declared.Passed.the-variants.{To, Refused as Stopped}
+use Rattle.lexical.specs.declared.Token.{Token}
+use Rattle.lexical.specs.declared.Token.the-variants.{Read, Refused as Long}
+use Rattle.lexical.specs.Lexical.{isLoose, told, onto}
+use Rattle.lexical.specs.Token.{Tokened, sizeOf}
+use Rattle.text.proofs.Reading.{give-ok}
+use Rattle.lexical.proofs.Laws.{row-first, pass-to, pass-refused}
+use Rattle.lexical.proofs.Tokens.{token-fits, token-size, token·laws}
+use Rattle.header.specs.Header.{Head, endWidth, endsWith, before, opening, header}
+use Rattle.header.specs.Answer.{toldError, toldHeader, nameLength, stored, sidesOf, widthSymbol, Symboled, Headed}
+use Rattle.header.specs.declared.XbmDecodeError.{XbmDecodeError}
+use Rattle.header.specs.declared.XbmDecodeError.the-variants.{Parse, DecodeInteger, ZeroWidth, ZeroHeight}
+use Rattle.header.specs.declared.XbmHeaderData.{XbmHeaderData}
+use Rattle.header.specs.declared.HeaderRead.{HeaderRead}
+use Rattle.header.specs.declared.HeaderRead.the-variants.{Read as HeaderIs, Refused}
+use Rattle.header.proofs.Ends.{ends-long}
+use Rattle.header.proofs.Parts.{parts}
+
+-- a row that starts with the text
+pub row-start : {B : Type 0} (f : Reader B) (t : List ℕ) {z : Result B} (m : Passed) (p : Reader (Unit {0})) {i : TextLocation}
+    → i ≡ start → told m ≡ p t i → z ≡ onto m f t → z ≡ (p >> f) t start
+row-start f t m p b e k = row-first f t m p start (rw b at e) k
+
+-- the width's symbol: what opens it, its token, its ending
+module _ (t lent : List ℕ) {m : Passed} (e : told m ≡ opening t start) where
+  pub symbol-refused : {part : XbmPart} {q : TextLocation} → m ≡ Stopped part q → Symboled t lent lent (Long part q)
+  unfolding widthSymbol stored _>>=_
+  symbol-refused h = record { answer = rw (← e, h); fits = omega arith; symbol = rw (← e, h) }
+
+  module _ {a : TextLocation} (h : m ≡ To a) {later : List ℕ} {r : Token} (k : Tokened isLoose 1 t a lent later r) where
+    pub symbol-long : {part : XbmPart} {q : TextLocation} → r ≡ Long part q → Symboled t lent later (Long part q)
+    unfolding widthSymbol stored _>>=_
+    symbol-long g = record { answer = rw (← e, h, ← k .answer, g); fits = omega arith; symbol = rw (← e, h) (k .stored) }
+
+    module _ {n : ℕ} {b : TextLocation} (g : r ≡ Read n b) {y : Bool} (v : y ≡ endsWith (take n later) endWidth) where
+      pub symbol-named : y ≡ true → Symboled t lent later (Read (n - 6) b)
+      unfolding widthSymbol stored before want _>>=_
+      symbol-named u =
+          let l = token-fits 1 k g in
+          record {
+            answer = rw (← e, h, ← k .answer, g, ← v, u, length-take-le n later l, take-take (n - 6) n later (omega arith));
+            fits = omega arith;
+            symbol = rw (← e, h) (k .stored);
+          }
+
+      pub symbol-other : y ≡ false → Symboled t lent later (Long Width b)
+      unfolding widthSymbol stored before want _>>=_
+      symbol-other u = record { answer = rw (← e, h, ← k .answer, g, ← v, u); fits = omega arith; symbol = rw (← e, h) (k .stored) }
+
+-- a symbol that ends in `_width` has 6 bytes, at least
+pub symbol-six : {t : List ℕ} {a : TextLocation} {lent later : List ℕ} {r : Token} {n : ℕ} {b : TextLocation} {y : Bool} → Tokened isLoose 1 t a lent later r → r ≡ Read n b
+    → y ≡ endsWith (take n later) endWidth → y ≡ true → 6 ≤ n
+symbol-six k h v u = rw (token-size 1 k h) (ends-long _ endWidth v u)
+
+pub ruleset symbol·laws = (symbol-refused, symbol-long, symbol-named, symbol-other, symbol-six, token-fits, token-size)
+
+-- an integer's token and the line's end
+pub ruleset value·laws = (pass-to, pass-refused, give-ok, token·laws)
+
+-- what was stored is within the buffer
+module _ (m : Token) (later : List ℕ) (e : sizeOf m ≤ length later) {n : ℕ} {q : TextLocation} (h : m ≡ Read n q) where
+  pub size-fits : n ≤ length later
+  size-fits = rw h at e
+
+  pub size-taken : n ≡ length (take n later)
+  size-taken = sym (length-take-le n later size-fits)
+
+pub ruleset size·laws = (size-fits, size-taken)
+
+-- the length of the name, of what is told
+abbrev toldLength : Told Head → ℕ
+toldLength (accepted h e) = length (h .name)
+toldLength (refused c e) = 0
+toldLength (unplaced c) = 0
+
+shown-length : (r : Result Head) → nameLength r ≡ toldLength (shown r)
+shown-length (ok h e) = refl
+shown-length (stop c e) = refl
+shown-length (bad c e) = refl
+
+error-length : (x : XbmDecodeError) → 0 ≡ toldLength (toldError x)
+error-length (Parse part q) = refl
+error-length (DecodeInteger part) = refl
+error-length ZeroWidth = refl
+error-length ZeroHeight = refl
+
+-- the header, from its width's symbol and what follows it
+module _ (t lent : List ℕ) {later : List ℕ} {r : Token} (s : Symboled t lent later r) where
+  pub header-refused : {part : XbmPart} {q : TextLocation} → r ≡ Long part q → Headed t lent later (record { header = Refused (Parse part q); name = 0 })
+  unfolding _>>=_
+  header-refused h =
+      record { answer = rw (← parts (length lent), ← s .answer, h); size = rw (← parts (length lent), ← s .answer, h); symbol = s .symbol }
+
+  module _ {n : ℕ} {p : TextLocation} (h : r ≡ Read n p) (x : HeaderRead) (e : toldHeader (take n later) x ≡ shown (sidesOf (take n later) t p)) where
+    whole : toldHeader (take n later) x ≡ shown (header (length lent) t start)
+    unfolding _>>=_
+    whole = rw (← parts (length lent), ← s .answer, h) e
+
+    pub header-read : {d : XbmHeaderData} {q : TextLocation} → x ≡ HeaderIs d q → Headed t lent later (record { header = x; name = n })
+    header-read g =
+        record { answer = whole; size = rw (shown-length (header (length lent) t start), ← whole, g) (size-taken r later (s .fits) h); symbol = s .symbol }
+
+    pub header-not : {y : XbmDecodeError} → x ≡ Refused y → Headed t lent later (record { header = x; name = 0 })
+    header-not {y} g =
+        record { answer = rw g (rw g at whole); size = rw (shown-length (header (length lent) t start), ← whole, g) (error-length y); symbol = s .symbol }
+
+pub ruleset header·laws = (header-refused, header-read, header-not, size·laws)

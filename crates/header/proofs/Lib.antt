@@ -1,0 +1,4 @@
+pub mod Ends
+pub mod Told
+pub mod Parts
+pub mod Laws

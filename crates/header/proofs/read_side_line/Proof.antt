@@ -1,0 +1,37 @@
+-- `read_side_line` meets its contract. The symbol, then the integer.
+use Rattle.header.proofs.Told.{shown·laws}
+use Rattle.header.specs.Answer.{sideLine}
+use borrow.Author.Needs.{needs}
+use Rattle.header.proofs.read_side_line.Statement.{statement}
+use Rattle.header.proofs.read_side_line.Tie as tie
+
+read-symbol-requires : tie.Need-read-symbol-requires
+read-symbol-requires c κs = search needs
+
+enum-known-p : tie.Need-enum-known-p
+enum-known-p c = search needs
+
+read-unsigned-requires : tie.Need-read-unsigned-requires
+read-unsigned-requires c κs = search needs
+
+enum-known-q : tie.Need-enum-known-q
+enum-known-q c = search needs
+
+returns : tie.Need-returns
+unfolding sideLine
+returns c = search (shown·laws, needs)
+
+returns-2 : tie.Need-returns-2
+unfolding sideLine
+returns-2 c = search (shown·laws, needs)
+
+pub read-side-line-spec : {M : Type 1} → statement M
+read-side-line-spec =
+    tie.close
+    (tie.spec
+    read-symbol-requires
+    enum-known-p
+    read-unsigned-requires
+    enum-known-q
+    returns
+    returns-2)

@@ -1,0 +1,59 @@
+-- `read_unsigned` meets its contract. The token is within the digits; then its value or a refusal that tells no place.
+use Rattle.header.proofs.Told.{shown·laws}
+use Rattle.header.proofs.Laws.{size·laws}
+use Rattle.header.specs.Answer.{unsignedLine}
+use borrow.Author.Needs.{needs}
+use Rattle.header.proofs.read_unsigned.Statement.{statement}
+use Rattle.header.proofs.read_unsigned.Tie as tie
+
+read-value-requires : tie.Need-read-value-requires
+read-value-requires c κs = search needs
+
+enum-known-n : tie.Need-enum-known-n
+enum-known-n c = search needs
+
+array-share-prefix-digits : tie.Need-array-share-prefix-digits
+array-share-prefix-digits c = search (size·laws, needs)
+
+slice-aggregate-parse-u32 : tie.Need-slice-aggregate-parse-u32
+slice-aggregate-parse-u32 c = search (size·laws, needs)
+
+parse-u32-requires : tie.Need-parse-u32-requires
+parse-u32-requires c κs = search needs
+
+enum-known-v : tie.Need-enum-known-v
+enum-known-v c = search needs
+
+enum-told : tie.Need-enum-told
+enum-told c = search needs
+
+enum-known-q : tie.Need-enum-known-q
+enum-known-q c = search needs
+
+returns : tie.Need-returns
+unfolding unsignedLine
+returns c = search (shown·laws, needs)
+
+returns-2 : tie.Need-returns-2
+unfolding unsignedLine
+returns-2 c = search (shown·laws, needs)
+
+returns-3 : tie.Need-returns-3
+unfolding unsignedLine
+returns-3 c = search (shown·laws, needs)
+
+pub read-unsigned-spec : {M : Type 1} → statement M
+read-unsigned-spec =
+    tie.close
+    (tie.spec
+    read-value-requires
+    enum-known-n
+    array-share-prefix-digits
+    slice-aggregate-parse-u32
+    parse-u32-requires
+    enum-known-v
+    enum-told
+    enum-known-q
+    returns
+    returns-2
+    returns-3)
