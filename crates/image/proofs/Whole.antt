@@ -32,7 +32,7 @@ use Rattle.image.specs.declared.ImageRead.the-variants.{Read, Refused, D
 use Rattle.image.specs.declared.ImageAnswer.{ImageAnswer}
 use Rattle.image.specs.Cells.{painted}
 use Rattle.image.specs.Rows.{toldRows, count, whole, Filled}
-use Rattle.image.specs.Reading.{picture, nameIn, cellsIn, Reading, reading, toldRefusal, toldImage, toldReading, Imaged, Pictured}
+use Rattle.image.specs.Reading.{picture, nameIn, cellsIn, Reading, reading, toldRefusal, toldImage, toldReading, Imaged, Sided, Pictured}
 
 -- ---- no side of an accepted header is zero
 
@@ -119,8 +119,8 @@ module _ (t name name′ : List ℕ) {h : HeaderAnswer} (k : Headed t name name�
     head-is : header (length name) t start ≡ ok (headOf (take (h .name) name′) d) p
     head-is = accepted-is (rw e at (k .answer))
 
-    pub head-sides : (d .width ≡ 0 → ⊥) × (d .height ≡ 0 → ⊥)
-    head-sides = yields-header (length name) .yields t start (headOf (take (h .name) name′) d) p head-is
+    pub head-sides : Sided d
+    head-sides = let (a, b) = yields-header (length name) .yields t start (headOf (take (h .name) name′) d) p head-is in record { wide = a; high = b }
 
     name-fits : h .name ≤ length name′
     name-fits = omega (arith, k .size ∙ ap nameLength head-is, length-take (h .name) name′)

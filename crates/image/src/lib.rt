@@ -9,11 +9,13 @@ ghost use Rattle.image.specs.Cells.{ink};
 ghost use Rattle.image.specs.Stores.{dab};
 ghost use Rattle.image.specs.Quick.{Meets, hexTable};
 ghost use Rattle.image.specs.Rows.{Filled};
-ghost use Rattle.image.specs.Reading.{Pictured, Imaged};
+ghost use Rattle.image.specs.Reading.{Sided, Pictured, Imaged};
 use decoder::read_data_byte;
 use decoder::read_trailer;
+use header::HeaderRead;
 use header::XbmDecodeError;
 use header::XbmHeaderData;
+use header::read_xbm_header;
 use hex_table::HEX;
 use lexical::ByteRead;
 use lexical::Passed;
@@ -209,12 +211,30 @@ fn read_picture(
     header: XbmHeaderData,
     pixels: &mut [u8],
 ) -> ImageRead
-    requires { ⌜ (header .width ≡ 0 → ⊥) × (header .height ≡ 0 → ⊥) ⌝ }
+    requires { ⌜ Sided header ⌝ }
     ensures { λ r. ⌜ Pictured header (now (text .entry)) place (now (pixels .entry)) (now (pixels .exit)) r ⌝ }
 {
     match read_rows(text, place, header.width, header.height, pixels) {
         Rows::Done => ImageRead::Read(header),
         Rows::Refused(part, p) => ImageRead::Refused(XbmDecodeError::Parse(part, p)),
         Rows::Mismatch => ImageRead::DimensionMismatch,
+    }
+}
+
+// The pixels of a text, its header first: as `XbmDecoder::new` and then `read_image`.
+pub fn read_image(text: &[u8], name: &mut [u8], pixels: &mut [u8]) -> ImageAnswer
+    ensures { λ r. ⌜ Imaged (now (text .entry)) (now (name .entry)) (now (pixels .entry)) (now (name .exit)) (now (pixels .exit)) r ⌝ }
+{
+    let read = read_xbm_header(text, name);
+    let header = read.header;
+    match header {
+        HeaderRead::Read(d, place) => ImageAnswer {
+            image: read_picture(text, place, d, pixels),
+            name: read.name,
+        },
+        HeaderRead::Refused(e) => ImageAnswer {
+            image: ImageRead::Refused(e),
+            name: read.name,
+        },
     }
 }
