@@ -1,0 +1,1 @@
+//! Comparison of the proved reader with the original.
