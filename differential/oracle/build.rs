@@ -37,10 +37,7 @@ fn main() {
 
     println!("cargo::rerun-if-changed={}", original.display());
     let copy = out.join("xbm.rs");
-    let opened = format!(
-        "{text}\n{}",
-        module("exposed", &package.join("src/exposed.rs"))
-    );
+    let opened = format!("{text}\n{}", module("exposed", &package.join("src/exposed.rs")));
     fs::write(&copy, opened).unwrap();
     fs::write(out.join("original.rs"), module("original", &copy)).unwrap();
     println!("cargo::rustc-cfg=has_original");

@@ -26,10 +26,7 @@ pub struct DecodingError {
 
 impl DecodingError {
     pub fn new(format: ImageFormatHint, err: impl Into<Box<dyn Error + Send + Sync>>) -> Self {
-        DecodingError {
-            format,
-            underlying: err.into(),
-        }
+        DecodingError { format, underlying: err.into() }
     }
 
     pub fn format_hint(&self) -> ImageFormatHint {

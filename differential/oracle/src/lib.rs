@@ -13,11 +13,7 @@ pub struct Place {
 
 impl Place {
     /// The place at which every text begins.
-    pub const START: Place = Place {
-        byte: 0,
-        line: 1,
-        column: 0,
-    };
+    pub const START: Place = Place { byte: 0, line: 1, column: 0 };
 }
 
 /// Document 01's number of a refusal, with the place where one is told.

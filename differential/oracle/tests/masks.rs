@@ -15,11 +15,7 @@ static char d_bits[] = {0x01,0x00};
 const LENT: u8 = 77;
 
 /// M's header values.
-const M_HEADER: Header = Header {
-    width: 9,
-    height: 1,
-    hotspot: None,
-};
+const M_HEADER: Header = Header { width: 9, height: 1, hotspot: None };
 
 /// M's cells: 0 and then eight of 255.
 const M_CELLS: [u8; 9] = [0, 255, 255, 255, 255, 255, 255, 255, 255];
