@@ -1,0 +1,217 @@
+//! Times the proved reader beside the original in one process.
+//!
+//! `bench` prints times and ratios for all cases; `bench --instructions CASE` counts the
+//! instructions of one decoding by each side with callgrind.
+
+#[cfg(has_original)]
+fn main() -> std::process::ExitCode {
+    timing::main()
+}
+
+#[cfg(not(has_original))]
+fn main() -> std::process::ExitCode {
+    eprintln!("bench: {}", differential::ORIGINAL_MISSING);
+    std::process::ExitCode::from(2)
+}
+
+#[cfg(has_original)]
+mod timing {
+    use differential::interface::{self, Interface};
+    use differential::random::Random;
+    use differential::texts::{row_bytes, Mask};
+    use image::ImageDecoder;
+    use oracle::{XbmDecoder, NAME_BUFFER_LENGTH};
+    use std::hint::black_box;
+    use std::process::{Command, ExitCode};
+    use std::time::{Duration, Instant};
+
+    /// The time that both sides of one case take together.
+    const BUDGET: Duration = Duration::from_secs(3);
+
+    /// A sample holds decodings enough to last about this long.
+    const SAMPLE: Duration = Duration::from_micros(200);
+
+    /// Fewer rounds than this tell no least time.
+    const FEWEST_ROUNDS: u32 = 15;
+
+    /// What a case is called on the command line, and in the table.
+    const CASES: [(&str, &str); 5] = [
+        ("circle", "256x256 circle"),
+        ("random", "256x256 random"),
+        ("narrow", "64 KiB text, 9 wide"),
+        ("preamble", "4 KiB preamble, 16x16"),
+        ("large", "4096x4096 random"),
+    ];
+
+    pub fn main() -> ExitCode {
+        let Some(interface) = interface::linked() else {
+            eprintln!("bench: {}", differential::LIBRARY_MISSING);
+            return ExitCode::from(2);
+        };
+        let words: Vec<String> = std::env::args().skip(1).collect();
+        let words: Vec<&str> = words.iter().map(String::as_str).collect();
+        match words[..] {
+            [] => table(&interface),
+            ["--instructions", case] if known(case) => count_instructions(case),
+            ["--one", case, "original"] if known(case) => Decoding::new(case).original_once(),
+            ["--one", case, "ours"] if known(case) => Decoding::new(case).ours_once(&interface),
+            _ => {
+                let names: Vec<&str> = CASES.iter().map(|(case, _)| *case).collect();
+                let names = names.join(" | ");
+                eprintln!("usage: bench [--instructions CASE], with CASE one of {names}");
+                return ExitCode::from(2);
+            }
+        }
+        ExitCode::SUCCESS
+    }
+
+    fn known(case: &str) -> bool {
+        CASES.iter().any(|(name, _)| *name == case)
+    }
+
+    /// A text with the buffers that both sides are lent in turn.
+    struct Decoding {
+        text: Vec<u8>,
+        name: [u8; NAME_BUFFER_LENGTH],
+        pixels: Vec<u8>,
+    }
+
+    impl Decoding {
+        fn new(case: &str) -> Decoding {
+            let mut random = Random::new(1);
+            let (mask, cells) = match case {
+                "circle" => (circle(256), 256 * 256),
+                "random" => (noise(&mut random, 256, 256), 256 * 256),
+                "narrow" => (noise(&mut random, 9, NARROW_ROWS), 9 * NARROW_ROWS),
+                "preamble" => {
+                    let mut mask = noise(&mut random, 16, 16);
+                    while mask.preamble.len() < 4096 {
+                        mask.preamble.extend_from_slice(COPYRIGHT_LINE);
+                    }
+                    (mask, 16 * 16)
+                }
+                _ => (noise(&mut random, 4096, 4096), 4096 * 4096),
+            };
+            Decoding {
+                text: mask.text(&mut random),
+                name: [0; NAME_BUFFER_LENGTH],
+                pixels: vec![0; cells],
+            }
+        }
+
+        #[inline(never)]
+        fn original_once(&mut self) {
+            let decoder = XbmDecoder::new(black_box(self.text.as_slice()));
+            let answer = decoder.and_then(|decoder| decoder.read_image(&mut self.pixels));
+            black_box(answer).expect("the original accepts the benchmark's texts");
+        }
+
+        #[inline(never)]
+        fn ours_once(&mut self, interface: &Interface) {
+            let text = black_box(self.text.as_slice());
+            let answer = interface.read_image(text, &mut self.name, &mut self.pixels);
+            assert_eq!(black_box(answer).result, 0, "ours accepts the benchmark's texts");
+        }
+    }
+
+    /// As many rows of two bytes as a text of 64 KiB holds.
+    const NARROW_ROWS: usize = 5235;
+
+    const COPYRIGHT_LINE: &[u8] =
+        b" * Permission to use, copy, modify and distribute this mask is granted to all.\n";
+
+    fn circle(side: usize) -> Mask {
+        let middle = side as i64 / 2;
+        let radius = middle - 8;
+        let mut data = vec![0; row_bytes(side) * side];
+        for y in 0..side {
+            for x in 0..side {
+                let (dx, dy) = (x as i64 - middle, y as i64 - middle);
+                if dx * dx + dy * dy <= radius * radius {
+                    data[y * row_bytes(side) + x / 8] |= 1 << (x % 8);
+                }
+            }
+        }
+        Mask::new("circle", side, side, data)
+    }
+
+    fn noise(random: &mut Random, width: usize, height: usize) -> Mask {
+        let data = (0..row_bytes(width) * height).map(|_| random.byte()).collect();
+        Mask::new("noise", width, height, data)
+    }
+
+    fn table(interface: &Interface) {
+        println!("Least time of many rounds, the two sides alternating in one process.");
+        println!("Both are lent the same buffers, not cleared between rounds.");
+        println!();
+        println!(
+            "{:<24}{:>12}{:>15}{:>15}{:>9}{:>9}",
+            "case", "text bytes", "original", "ours", "ratio", "rounds"
+        );
+        for (case, title) in CASES {
+            let mut decoding = Decoding::new(case);
+            decoding.original_once();
+            let wanted = decoding.pixels.clone();
+            decoding.pixels.fill(77);
+            decoding.ours_once(interface);
+            assert!(wanted == decoding.pixels, "the two sides decode alike");
+
+            let (original, ours, rounds) = least_times(&mut decoding, interface);
+            println!(
+                "{title:<24}{:>12}{:>12.2} us{:>12.2} us{:>9.2}{rounds:>9}",
+                decoding.text.len(),
+                original * 1e6,
+                ours * 1e6,
+                original / ours,
+            );
+        }
+        println!("\nratio: the original's time divided by ours");
+    }
+
+    /// Seconds for one decoding by the original and by ours, with the rounds made.
+    fn least_times(decoding: &mut Decoding, interface: &Interface) -> (f64, f64, u32) {
+        let once = timed(1, || decoding.original_once());
+        let batch = (SAMPLE.as_secs_f64() / once).ceil().max(1.0) as u32;
+        let (mut original, mut ours) = (f64::MAX, f64::MAX);
+        let started = Instant::now();
+        let mut rounds = 0;
+        while rounds < FEWEST_ROUNDS || started.elapsed() < BUDGET {
+            original = original.min(timed(batch, || decoding.original_once()));
+            ours = ours.min(timed(batch, || decoding.ours_once(interface)));
+            rounds += 1;
+        }
+        (original, ours, rounds)
+    }
+
+    /// Seconds for one of so many repetitions.
+    fn timed(repetitions: u32, mut work: impl FnMut()) -> f64 {
+        let started = Instant::now();
+        for _ in 0..repetitions {
+            work();
+        }
+        started.elapsed().as_secs_f64() / f64::from(repetitions)
+    }
+
+    /// Runs one decoding of each side under callgrind, counting only inside it.
+    fn count_instructions(case: &str) {
+        let program = std::env::current_exe().expect("this program has a path");
+        for side in ["original", "ours"] {
+            let output = Command::new("valgrind")
+                .args(["--tool=callgrind", "--callgrind-out-file=/dev/null"])
+                .arg(format!("--toggle-collect=*{side}_once*"))
+                .arg(&program)
+                .args(["--one", case, side])
+                .output();
+            let Ok(output) = output else {
+                println!("valgrind was not found: no instructions counted");
+                return;
+            };
+            let told = String::from_utf8_lossy(&output.stderr).into_owned();
+            let collected = told.lines().find_map(|line| line.split_once("Collected : "));
+            match collected {
+                Some((_, count)) => println!("{case}, {side}: {count} instructions"),
+                None => println!("{case}, {side}: callgrind told no count:\n{told}"),
+            }
+        }
+    }
+}

@@ -1,0 +1,381 @@
+//! One call on both sides, with everything compared: answer, report, hotspot, whole buffers, decoder.
+
+use crate::interface::{entry, Answer, Interface, StreamDecoder, NONE_LEFT, NO_HOTSPOT_ENTRY};
+use crate::random::Random;
+use oracle::{Decoder, Header, Place, ReadHeader, Refusal, NAME_BUFFER_LENGTH};
+use std::fmt::Write;
+
+/// What is printed where the two sides part.
+pub type Difference = String;
+
+/// Cells beside a lent buffer that no call may touch.
+const GUARD: usize = 16;
+
+/// The longest buffer that is ever lent.
+pub const LONGEST_BUFFER: usize = 1 << 17;
+
+/// The number that a foreign decoder gets. The original has none.
+const FOREIGN: u32 = 9;
+
+/// A lent buffer between two guards, filled with bytes that differ from cell to cell.
+#[derive(Default)]
+struct Lent {
+    bytes: Vec<u8>,
+}
+
+impl Lent {
+    fn fill(&mut self, length: usize, filling: &[u8]) {
+        self.bytes.clear();
+        self.bytes.extend_from_slice(&filling[..length + 2 * GUARD]);
+    }
+
+    fn part(&mut self) -> &mut [u8] {
+        let end = self.bytes.len() - GUARD;
+        &mut self.bytes[GUARD..end]
+    }
+}
+
+/// The buffers that one side is lent.
+#[derive(Default)]
+struct Side {
+    name: Lent,
+    pixels: Lent,
+}
+
+/// The calls of the interface.
+#[derive(Clone, Copy, PartialEq, Eq)]
+pub enum Call {
+    ReadHeader,
+    ReadImage,
+    NextByte,
+}
+
+const CALLS: [(Call, &str); 3] = [
+    (Call::ReadHeader, "read_header"),
+    (Call::ReadImage, "read_image"),
+    (Call::NextByte, "next_byte"),
+];
+
+/// Accepted `next_byte` calls that gave no byte are counted apart, under a number that no refusal has.
+const ACCEPTED_NONE: usize = 10;
+
+/// The numbers that each call can give, all of which a run must reach.
+const REACHED: [&[usize]; 3] = [
+    &[0, 1, 2, 3, 4, 5, 11, 12, 13, 14, 21, 22],
+    &[0, 1, 2, 3, 4, 5, 6, 7, 8, 11, 12, 13, 14, 21, 22, 31],
+    &[0, 6, 7, 8, FOREIGN as usize, ACCEPTED_NONE],
+];
+
+/// How often each call gave each number.
+#[derive(Clone, Default)]
+pub struct Tally {
+    counts: [[u64; 32]; 3],
+}
+
+impl Tally {
+    fn add(&mut self, call: Call, answer: &Answer) {
+        let none = call == Call::NextByte && answer.report[entry::DATA_BYTE] == NONE_LEFT;
+        let number = if none { ACCEPTED_NONE } else { answer.result as usize };
+        self.counts[call as usize][number] += 1;
+    }
+
+    pub fn total(&self) -> u64 {
+        self.counts.iter().flatten().sum()
+    }
+
+    /// One line: every call with the numbers it gave and how often.
+    pub fn summary(&self) -> String {
+        let mut line = format!("{} comparisons", self.total());
+        for (call, name) in CALLS {
+            write!(line, "; {name}").unwrap();
+            for (number, count) in self.counts[call as usize].iter().enumerate() {
+                if *count > 0 {
+                    write!(line, " {}:{count}", label(call, number)).unwrap();
+                }
+            }
+        }
+        line
+    }
+
+    /// The numbers that the calls can give and that no text led to.
+    pub fn unreached(&self) -> Vec<String> {
+        let mut out = Vec::new();
+        for ((call, name), numbers) in CALLS.into_iter().zip(REACHED) {
+            for &number in numbers {
+                if self.counts[call as usize][number] == 0 {
+                    out.push(format!("{name} {}", label(call, number)));
+                }
+            }
+        }
+        out
+    }
+}
+
+fn label(call: Call, number: usize) -> String {
+    match (call, number) {
+        (Call::NextByte, 0) => "byte".into(),
+        (_, 0) => "accepted".into(),
+        (_, ACCEPTED_NONE) => "none".into(),
+        _ => number.to_string(),
+    }
+}
+
+pub struct Comparison<'i> {
+    interface: &'i Interface,
+    original: Side,
+    ours: Side,
+    /// Bytes from which fillings are cut; none is 0 or 255, so that a written cell shows.
+    fillings: Vec<u8>,
+    /// Where the next filling begins.
+    next_filling: usize,
+    pub tally: Tally,
+}
+
+impl<'i> Comparison<'i> {
+    pub fn new(interface: &'i Interface) -> Comparison<'i> {
+        let mut random = Random::new(0);
+        let length = LONGEST_BUFFER + 2 * GUARD + FILLINGS;
+        Comparison {
+            interface,
+            original: Side::default(),
+            ours: Side::default(),
+            fillings: (0..length).map(|_| random.within(1, 254) as u8).collect(),
+            next_filling: 0,
+            tally: Tally::default(),
+        }
+    }
+
+    fn fill(&mut self, name_length: usize, pixel_length: usize) {
+        self.next_filling = (self.next_filling + 1) % FILLINGS;
+        let filling = &self.fillings[self.next_filling..];
+        for side in [&mut self.original, &mut self.ours] {
+            side.name.fill(name_length, filling);
+            side.pixels.fill(pixel_length, filling);
+        }
+    }
+
+    /// `read_header` beside `read_xbm_header` with the same name buffer. Gives what was accepted.
+    pub fn read_header(
+        &mut self,
+        text: &[u8],
+        name_length: usize,
+    ) -> Result<Option<ReadHeader>, Difference> {
+        self.fill(name_length, 0);
+        let read = oracle::read_header(text, self.original.name.part());
+        let ours = self.interface.read_header(text, self.ours.name.part());
+        let expected = match read {
+            Ok(read) => Answer {
+                report: with_place(header_report(&read.header, read.name_length), read.place),
+                ..accepted_header(&read.header)
+            },
+            Err(refusal) => refused(&refusal),
+        };
+        self.settle(Call::ReadHeader, text, expected, ours)?;
+        Ok(read.ok())
+    }
+
+    /// `read_image` beside the original's two calls, with the name as `read_xbm_header` leaves it.
+    pub fn read_image(
+        &mut self,
+        text: &[u8],
+        name_length: usize,
+        pixel_length: usize,
+    ) -> Result<(), Difference> {
+        self.fill(name_length, pixel_length);
+        let read = oracle::read_header(text, self.original.name.part());
+        let pixels = self.original.pixels.part();
+        let answer = if name_length == NAME_BUFFER_LENGTH {
+            oracle::read_image(text, pixels)
+        } else {
+            oracle::read_image_naming(text, &mut [0; LONGEST_NAME][..name_length], pixels)
+        };
+        let ours = &mut self.ours;
+        let ours = self.interface.read_image(text, ours.name.part(), ours.pixels.part());
+        // Only a refused header takes the name back.
+        let named = read.map_or(0, |read| read.name_length);
+        let expected = match answer {
+            Ok(header) => {
+                Answer { report: header_report(&header, named), ..accepted_header(&header) }
+            }
+            Err(refusal) => {
+                let mut expected = refused(&refusal);
+                expected.report[entry::NAME_LENGTH] = named as u64;
+                expected
+            }
+        };
+        self.settle(Call::ReadImage, text, expected, ours)
+    }
+
+    /// Up to `calls` calls of `next_byte` in a row, on the decoder as the last one left it.
+    /// A few calls follow the first that gives no byte.
+    pub fn next_bytes(
+        &mut self,
+        text: &[u8],
+        decoder: StreamDecoder,
+        calls: usize,
+    ) -> Result<(), Difference> {
+        if foreign(text, &decoder) {
+            return self.next_byte_foreign(text, decoder);
+        }
+        let StreamDecoder { width, height, current_position, location } = decoder;
+        let mut original = Decoder::lent(text, width, height, current_position, location);
+        let mut ours = decoder;
+        let mut left = calls;
+        while left > 0 {
+            left -= 1;
+            let before = ours;
+            let read = original.next_byte();
+            let answer = self.interface.next_byte(text, &mut ours);
+            let later = StreamDecoder {
+                width: original.header().width,
+                height: original.header().height,
+                current_position: original.position(),
+                location: original.place(),
+            };
+            let expected = match read {
+                Ok(byte) => {
+                    let mut report = with_place([0; 8], later.location);
+                    report[entry::DATA_BYTE] = byte.map_or(NONE_LEFT, u64::from);
+                    Answer { result: 0, report, hotspot: NO_HOTSPOT_ENTRY, strayed: false }
+                }
+                Err(refusal) => Answer { hotspot: NO_HOTSPOT_ENTRY, ..refused(&refusal) },
+            };
+            if !matches!(read, Ok(Some(_))) {
+                left = left.min(CALLS_AFTER_THE_LAST_BYTE);
+            }
+            self.settle_decoder(text, before, (expected, later), (answer, ours))?;
+        }
+        Ok(())
+    }
+
+    /// A foreign decoder gets 9 and stays as it is.
+    fn next_byte_foreign(&mut self, text: &[u8], lent: StreamDecoder) -> Result<(), Difference> {
+        let mut ours = lent;
+        let answer = self.interface.next_byte(text, &mut ours);
+        let expected =
+            Answer { result: FOREIGN, report: [0; 8], hotspot: NO_HOTSPOT_ENTRY, strayed: false };
+        self.settle_decoder(text, lent, (expected, lent), (answer, ours))
+    }
+
+    fn settle(
+        &mut self,
+        call: Call,
+        text: &[u8],
+        expected: Answer,
+        ours: Answer,
+    ) -> Result<(), Difference> {
+        let buffers_agree = self.original.name.bytes == self.ours.name.bytes
+            && self.original.pixels.bytes == self.ours.pixels.bytes;
+        if expected == ours && buffers_agree {
+            self.tally.add(call, &expected);
+            return Ok(());
+        }
+        let mut out = heading(CALLS[call as usize].1, text);
+        let filling = &self.fillings[self.next_filling..];
+        let sides = [
+            ("name", &self.original.name, &self.ours.name),
+            ("pixel", &self.original.pixels, &self.ours.pixels),
+        ];
+        for (buffer, original, ours) in sides {
+            let length = original.bytes.len() - 2 * GUARD;
+            writeln!(out, "{buffer} buffer lent: {length} cells").unwrap();
+            let pairs = original.bytes.iter().zip(&ours.bytes);
+            for (i, (a, b)) in pairs.enumerate().filter(|(_, (a, b))| a != b).take(8) {
+                let cell = i as i64 - GUARD as i64;
+                let lent = filling[i];
+                writeln!(out, "  {buffer} cell {cell}: expected {a}, ours {b}, lent {lent}")
+                    .unwrap();
+            }
+        }
+        write_answers(&mut out, &expected, &ours);
+        Err(out)
+    }
+
+    fn settle_decoder(
+        &mut self,
+        text: &[u8],
+        lent: StreamDecoder,
+        expected: (Answer, StreamDecoder),
+        ours: (Answer, StreamDecoder),
+    ) -> Result<(), Difference> {
+        if expected == ours {
+            self.tally.add(Call::NextByte, &expected.0);
+            return Ok(());
+        }
+        let mut out = heading("next_byte", text);
+        writeln!(out, "decoder lent:   {lent:?}").unwrap();
+        writeln!(out, "expected later: {:?}", expected.1).unwrap();
+        writeln!(out, "ours later:     {:?}", ours.1).unwrap();
+        write_answers(&mut out, &expected.0, &ours.0);
+        Err(out)
+    }
+}
+
+/// How many fillings differ from each other.
+const FILLINGS: usize = 1024;
+
+/// The longest name buffer that is ever lent.
+pub const LONGEST_NAME: usize = 400;
+
+/// Calls made after one that gave no byte: a refusal or the trailer.
+const CALLS_AFTER_THE_LAST_BYTE: usize = 3;
+
+/// Document 01's foreign decoder, on numbers wide enough for any sum.
+fn foreign(text: &[u8], decoder: &StreamDecoder) -> bool {
+    let Place { byte, line, column } = decoder.location;
+    decoder.width == 0
+        || decoder.height == 0
+        || u128::from(decoder.current_position) > data_size(decoder.width, decoder.height)
+        || byte > text.len() as u64
+        || column > byte
+        || u128::from(line) > u128::from(byte) + 1
+}
+
+/// All data bytes of a picture.
+pub fn data_size(width: u32, height: u32) -> u128 {
+    u128::from(width.div_ceil(8)) * u128::from(height)
+}
+
+fn accepted_header(header: &Header) -> Answer {
+    let (x, y) = header.hotspot.unwrap_or((0, 0));
+    Answer { result: 0, report: [0; 8], hotspot: [x, y], strayed: false }
+}
+
+fn header_report(header: &Header, name_length: usize) -> [u64; 8] {
+    let mut report = [0; 8];
+    report[entry::WIDTH] = header.width.into();
+    report[entry::HEIGHT] = header.height.into();
+    report[entry::NAME_LENGTH] = name_length as u64;
+    report[entry::HAS_HOTSPOT] = header.hotspot.is_some().into();
+    report
+}
+
+fn with_place(mut report: [u64; 8], place: Place) -> [u64; 8] {
+    report[entry::BYTE] = place.byte;
+    report[entry::LINE] = place.line;
+    report[entry::COLUMN] = place.column;
+    report
+}
+
+fn refused(refusal: &Refusal) -> Answer {
+    let report = match refusal.place {
+        Some(place) => with_place([0; 8], place),
+        None => [0; 8],
+    };
+    Answer { result: refusal.number, report, hotspot: [0, 0], strayed: false }
+}
+
+fn heading(call: &str, text: &[u8]) -> String {
+    format!("{call} differs on this text of {} bytes:\n\"{}\"\n", text.len(), text.escape_ascii())
+}
+
+fn write_answers(out: &mut String, expected: &Answer, ours: &Answer) {
+    writeln!(out, "expected: {}", told(expected)).unwrap();
+    writeln!(out, "ours:     {}", told(ours)).unwrap();
+}
+
+fn told(answer: &Answer) -> String {
+    let Answer { result, report, hotspot, strayed } = answer;
+    let strayed = if *strayed { ", wrote beside its report" } else { "" };
+    format!("result {result}, report {report:?}, hotspot {hotspot:?}{strayed}")
+}

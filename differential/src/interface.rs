@@ -1,0 +1,210 @@
+//! The C interface of the proved reader, called on slices.
+
+use oracle::Place;
+use std::ptr;
+
+/// A decoder as C lends it: sides, data bytes spent, place.
+#[derive(Clone, Copy, Debug, PartialEq, Eq)]
+#[repr(C)]
+pub struct StreamDecoder {
+    pub width: u32,
+    pub height: u32,
+    pub current_position: u64,
+    pub location: Place,
+}
+
+/// Entries of a report.
+pub mod entry {
+    pub const BYTE: usize = 0;
+    pub const LINE: usize = 1;
+    pub const COLUMN: usize = 2;
+    pub const WIDTH: usize = 3;
+    pub const HEIGHT: usize = 4;
+    pub const NAME_LENGTH: usize = 5;
+    pub const HAS_HOTSPOT: usize = 6;
+    pub const DATA_BYTE: usize = 7;
+}
+
+/// The data byte's entry when none is left.
+pub const NONE_LEFT: u64 = 256;
+
+pub type Report = [u64; 8];
+pub type Hotspot = [i32; 2];
+
+pub type ReadHeader =
+    unsafe extern "C" fn(*const u8, usize, *mut u8, usize, *mut u64, *mut i32) -> u32;
+pub type NextByte = unsafe extern "C" fn(*const u8, usize, *mut StreamDecoder, *mut u64) -> u32;
+pub type ReadImage = unsafe extern "C" fn(
+    *const u8,
+    usize,
+    *mut u8,
+    usize,
+    *mut u8,
+    usize,
+    *mut u64,
+    *mut i32,
+) -> u32;
+
+/// The three calls.
+#[derive(Clone, Copy)]
+pub struct Interface {
+    pub read_header: ReadHeader,
+    pub next_byte: NextByte,
+    pub read_image: ReadImage,
+}
+
+/// All that a call tells beside the buffers it is lent.
+#[derive(Clone, Copy, Debug, PartialEq, Eq)]
+pub struct Answer {
+    pub result: u32,
+    pub report: Report,
+    pub hotspot: Hotspot,
+    /// It wrote beside its report or its hotspot.
+    pub strayed: bool,
+}
+
+/// What report and hotspot hold before a call, and what stands beside them.
+const JUNK: u64 = 0xa5a5_5a5a_c3c3_3c3c;
+const JUNK_HOTSPOT: i32 = 0x5a5a_3c3c;
+
+/// Report and hotspot, each between two words that no call may touch.
+#[repr(C)]
+struct Told {
+    before: u64,
+    report: Report,
+    between: u64,
+    hotspot: Hotspot,
+    after: u64,
+}
+
+impl Told {
+    fn new() -> Told {
+        Told {
+            before: JUNK,
+            report: [JUNK; 8],
+            between: JUNK,
+            hotspot: [JUNK_HOTSPOT; 2],
+            after: JUNK,
+        }
+    }
+
+    fn answer(self, result: u32) -> Answer {
+        Answer {
+            result,
+            report: self.report,
+            hotspot: self.hotspot,
+            strayed: [self.before, self.between, self.after] != [JUNK; 3],
+        }
+    }
+}
+
+/// An empty buffer goes as a null pointer.
+fn pointer(bytes: &[u8]) -> *const u8 {
+    if bytes.is_empty() {
+        ptr::null()
+    } else {
+        bytes.as_ptr()
+    }
+}
+
+fn pointer_mut(bytes: &mut [u8]) -> *mut u8 {
+    if bytes.is_empty() {
+        ptr::null_mut()
+    } else {
+        bytes.as_mut_ptr()
+    }
+}
+
+impl Interface {
+    pub fn read_header(&self, text: &[u8], name: &mut [u8]) -> Answer {
+        let mut told = Told::new();
+        let result = unsafe {
+            (self.read_header)(
+                pointer(text),
+                text.len(),
+                pointer_mut(name),
+                name.len(),
+                told.report.as_mut_ptr(),
+                told.hotspot.as_mut_ptr(),
+            )
+        };
+        told.answer(result)
+    }
+
+    /// The call has no hotspot; the answer's is as it was filled.
+    pub fn next_byte(&self, text: &[u8], decoder: &mut StreamDecoder) -> Answer {
+        let mut told = Told::new();
+        let result = unsafe {
+            (self.next_byte)(pointer(text), text.len(), decoder, told.report.as_mut_ptr())
+        };
+        told.answer(result)
+    }
+
+    pub fn read_image(&self, text: &[u8], name: &mut [u8], pixels: &mut [u8]) -> Answer {
+        let mut told = Told::new();
+        let result = unsafe {
+            (self.read_image)(
+                pointer(text),
+                text.len(),
+                pointer_mut(name),
+                name.len(),
+                pointer_mut(pixels),
+                pixels.len(),
+                told.report.as_mut_ptr(),
+                told.hotspot.as_mut_ptr(),
+            )
+        };
+        told.answer(result)
+    }
+}
+
+/// The hotspot of a call that has none: as it was filled.
+pub const NO_HOTSPOT_ENTRY: Hotspot = [JUNK_HOTSPOT; 2];
+
+/// The static library's calls, if this was built with it.
+pub fn linked() -> Option<Interface> {
+    #[cfg(has_library)]
+    return Some(library::INTERFACE);
+    #[cfg(not(has_library))]
+    return None;
+}
+
+#[cfg(has_library)]
+mod library {
+    use super::{Interface, StreamDecoder};
+
+    extern "C" {
+        fn xbm_read_header(
+            text: *const u8,
+            text_len: usize,
+            name: *mut u8,
+            name_len: usize,
+            report: *mut u64,
+            hotspot: *mut i32,
+        ) -> u32;
+
+        fn xbm_next_byte(
+            text: *const u8,
+            text_len: usize,
+            decoder: *mut StreamDecoder,
+            report: *mut u64,
+        ) -> u32;
+
+        fn xbm_read_image(
+            text: *const u8,
+            text_len: usize,
+            name: *mut u8,
+            name_len: usize,
+            pixels: *mut u8,
+            pixels_len: usize,
+            report: *mut u64,
+            hotspot: *mut i32,
+        ) -> u32;
+    }
+
+    pub const INTERFACE: Interface = Interface {
+        read_header: xbm_read_header,
+        next_byte: xbm_next_byte,
+        read_image: xbm_read_image,
+    };
+}

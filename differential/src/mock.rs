@@ -1,0 +1,268 @@
+//! A stand-in for the proved reader, made of the original, with faults planted at will.
+//! It only tests the comparison: no result of it says anything of the proved reader.
+
+use crate::interface::{Interface, StreamDecoder};
+use oracle::{Decoder, Header, Place, Refusal};
+use std::cell::Cell;
+use std::slice;
+
+/// A fault such as a reader could have.
+#[derive(Clone, Copy, Debug, PartialEq, Eq)]
+pub enum Fault {
+    /// A refused trailer's column counts one too many.
+    Column,
+    /// A refused newline is told on its own line.
+    Line,
+    /// The last cell of a row one past whole bytes is not written.
+    Cell,
+    /// One cell past the buffer is written.
+    Overrun,
+    /// Cells of a remainder shorter than a row are written.
+    Remainder,
+    /// The last byte of a symbol that is too long is not stored.
+    NameByte,
+    /// The name is taken back by a refusal after the header.
+    NameTakenBack,
+    /// A refused data byte is not spent.
+    Position,
+    /// The buffer's length is checked before data and trailer.
+    EarlyMismatch,
+    /// A foreign decoder loses its position.
+    ForeignChanged,
+    /// A column above its byte is not seen as foreign.
+    ForeignMissed,
+    /// The hotspot of a refused image is still told.
+    Hotspot,
+    /// The last entry of the report is left as it was.
+    Report,
+    /// Highest bit first.
+    Bits,
+    /// The largest width is taken for an integer that does not fit.
+    WidestRefused,
+}
+
+impl Fault {
+    pub const ALL: [Fault; 15] = [
+        Fault::Column,
+        Fault::Line,
+        Fault::Cell,
+        Fault::Overrun,
+        Fault::Remainder,
+        Fault::NameByte,
+        Fault::NameTakenBack,
+        Fault::Position,
+        Fault::EarlyMismatch,
+        Fault::ForeignChanged,
+        Fault::ForeignMissed,
+        Fault::Hotspot,
+        Fault::Report,
+        Fault::Bits,
+        Fault::WidestRefused,
+    ];
+}
+
+thread_local! {
+    static PLANTED: Cell<Option<Fault>> = const { Cell::new(None) };
+}
+
+pub fn without_fault() -> Interface {
+    plant(None)
+}
+
+/// The fault stays planted in this thread until the next call of this or of `without_fault`.
+pub fn with_fault(fault: Fault) -> Interface {
+    plant(Some(fault))
+}
+
+fn plant(fault: Option<Fault>) -> Interface {
+    PLANTED.set(fault);
+    Interface { read_header, next_byte, read_image }
+}
+
+fn planted(fault: Fault) -> bool {
+    PLANTED.get() == Some(fault)
+}
+
+unsafe fn part<'a>(pointer: *const u8, length: usize) -> &'a [u8] {
+    if length == 0 {
+        return &[];
+    }
+    slice::from_raw_parts(pointer, length)
+}
+
+unsafe fn part_mut<'a>(pointer: *mut u8, length: usize) -> &'a mut [u8] {
+    if length == 0 {
+        return &mut [];
+    }
+    slice::from_raw_parts_mut(pointer, length)
+}
+
+fn tell(report: &mut [u64], place: Place) {
+    report[..3].copy_from_slice(&[place.byte, place.line, place.column]);
+}
+
+fn tell_header(report: &mut [u64], hotspot: &mut [i32], header: Header) {
+    report[3] = header.width.into();
+    report[4] = header.height.into();
+    if let Some((x, y)) = header.hotspot {
+        report[6] = 1;
+        hotspot.copy_from_slice(&[x, y]);
+    }
+}
+
+fn refuse(report: &mut [u64], text: &[u8], refusal: Refusal) -> u32 {
+    if let Some(mut place) = refusal.place {
+        if planted(Fault::Column) && refusal.number == 7 {
+            place.column += 1;
+        }
+        let last = place.byte.checked_sub(1).map(|at| text[at as usize]);
+        if planted(Fault::Line) && last == Some(b'\n') && refusal.number == 2 {
+            place.line -= 1;
+        }
+        tell(report, place);
+    }
+    refusal.number
+}
+
+/// Report and hotspot, all entries 0.
+unsafe fn cleared<'a>(report: *mut u64, hotspot: *mut i32) -> (&'a mut [u64], &'a mut [i32]) {
+    let entries = if planted(Fault::Report) { 7 } else { 8 };
+    let report = slice::from_raw_parts_mut(report, 8);
+    report[..entries].fill(0);
+    let hotspot = slice::from_raw_parts_mut(hotspot, 2);
+    hotspot.fill(0);
+    (report, hotspot)
+}
+
+unsafe extern "C" fn read_header(
+    text: *const u8,
+    text_len: usize,
+    name: *mut u8,
+    name_len: usize,
+    report: *mut u64,
+    hotspot: *mut i32,
+) -> u32 {
+    let (text, name) = (part(text, text_len), part_mut(name, name_len));
+    let (report, hotspot) = cleared(report, hotspot);
+    let last = name.last().copied();
+    match oracle::read_header(text, name) {
+        Ok(read) => {
+            if planted(Fault::WidestRefused) && read.header.width == u32::MAX {
+                return 11;
+            }
+            tell(report, read.place);
+            tell_header(report, hotspot, read.header);
+            report[5] = read.name_length as u64;
+            0
+        }
+        Err(refusal) => {
+            if planted(Fault::NameByte) && refusal.place.is_some_and(|p| p.byte == 264) {
+                *name.last_mut().unwrap() = last.unwrap();
+            }
+            refuse(report, text, refusal)
+        }
+    }
+}
+
+unsafe extern "C" fn next_byte(
+    text: *const u8,
+    text_len: usize,
+    decoder: *mut StreamDecoder,
+    report: *mut u64,
+) -> u32 {
+    let text = part(text, text_len);
+    let decoder = &mut *decoder;
+    let (report, _) = cleared(report, [0; 2].as_mut_ptr());
+    let StreamDecoder { width, height, current_position, location } = *decoder;
+    let data = u64::from(width.div_ceil(8)) * u64::from(height);
+    let past_column = location.column > location.byte && !planted(Fault::ForeignMissed);
+    let foreign = width == 0
+        || height == 0
+        || current_position > data
+        || location.byte > text_len as u64
+        || past_column
+        || location.line > location.byte + 1;
+    if foreign {
+        if planted(Fault::ForeignChanged) {
+            decoder.current_position = 0;
+        }
+        return 9;
+    }
+    let mut original = Decoder::lent(text, width, height, current_position, location);
+    let read = original.next_byte();
+    let kept = planted(Fault::Position) && read.is_err();
+    decoder.current_position = if kept { current_position } else { original.position() };
+    decoder.location = original.place();
+    match read {
+        Ok(byte) => {
+            tell(report, decoder.location);
+            report[7] = byte.map_or(256, u64::from);
+            0
+        }
+        Err(refusal) => refuse(report, text, refusal),
+    }
+}
+
+unsafe extern "C" fn read_image(
+    text: *const u8,
+    text_len: usize,
+    name: *mut u8,
+    name_len: usize,
+    pixels: *mut u8,
+    pixels_len: usize,
+    report: *mut u64,
+    hotspot: *mut i32,
+) -> u32 {
+    let (text, name) = (part(text, text_len), part_mut(name, name_len));
+    let (report, hotspot) = cleared(report, hotspot);
+    let overrun = planted(Fault::Overrun) && pixels_len > 0;
+    if overrun {
+        *pixels.add(pixels_len) = 0;
+    }
+    let pixels = part_mut(pixels, pixels_len);
+    let lent = pixels.to_vec();
+    let mut scratch = vec![0; name_len];
+    let read = oracle::read_header(text, name);
+    report[5] = read.map_or(0, |read| read.name_length as u64);
+    if let (Ok(read), true) = (read, planted(Fault::EarlyMismatch)) {
+        let exact = u64::from(read.header.width) * u64::from(read.header.height);
+        if pixels_len as u64 / u64::from(read.header.width) != u64::from(read.header.height) {
+            assert_ne!(pixels_len as u64, exact);
+            return 31;
+        }
+    }
+    let answer = oracle::read_image_naming(text, &mut scratch, pixels);
+    match answer {
+        Ok(header) => {
+            let width = header.width as usize;
+            spoil(pixels, &lent, width);
+            tell_header(report, hotspot, header);
+            0
+        }
+        Err(refusal) => {
+            if planted(Fault::NameTakenBack) {
+                report[5] = 0;
+            }
+            if let (Ok(Some((x, y))), true) =
+                (read.map(|r| r.header.hotspot), planted(Fault::Hotspot))
+            {
+                hotspot.copy_from_slice(&[x, y]);
+            }
+            refuse(report, text, refusal)
+        }
+    }
+}
+
+/// Plants the faults that touch the cells of an accepted picture.
+fn spoil(pixels: &mut [u8], lent: &[u8], width: usize) {
+    let whole = pixels.len() / width * width;
+    if planted(Fault::Cell) && width % 8 == 1 {
+        pixels[width - 1] = lent[width - 1];
+    }
+    if planted(Fault::Remainder) {
+        pixels[whole..].fill(255);
+    }
+    if planted(Fault::Bits) && width.is_multiple_of(8) {
+        pixels[..whole].chunks_mut(8).for_each(|byte| byte.reverse());
+    }
+}

@@ -1,0 +1,535 @@
+//! Which texts and buffers are tried: fixed families at the limits first, then drawn ones up to a count.
+
+use crate::comparison::{data_size, Comparison, Difference, Tally, LONGEST_BUFFER, LONGEST_NAME};
+use crate::interface::{Interface, StreamDecoder};
+use crate::random::Random;
+use crate::texts::{self, Layout, Mask, TELLING, TOKENS};
+use oracle::{Header, Place, ReadHeader, NAME_BUFFER_LENGTH};
+
+type Tried = Result<(), Difference>;
+
+/// Runs all families, then drawn texts until so many comparisons were made.
+pub fn run(interface: &Interface, seed: u64, count: u64) -> Result<Tally, Difference> {
+    let mut trials = Trials { comparison: Comparison::new(interface), random: Random::new(seed) };
+    trials.families()?;
+    while trials.comparison.tally.total() < count {
+        trials.drawn()?;
+    }
+    Ok(trials.comparison.tally)
+}
+
+/// A dozen sound texts, each with a part that the others lack.
+const SOUND: [&[u8]; 13] = [
+    b"#define d_width 9\n#define d_height 1\nstatic char d_bits[] = {0x01,0x00};\n",
+    b"#define d_width 9\n#define d_height 2\n#define d_x_hot -1\n#define d_y_hot 17\n\
+      static unsigned char d_bits[] = {\n   0x01, 0x00, 0xaB, 0X7f};\n",
+    b"/* a */\n\n * b #\n#define q_width 8\n#define q_height 3\nstatic char q_bits[] = {0x81,0xFf,0x00,};",
+    b"#define _width 1\n#define _height 2\nstatic char _bits[] = {0x00,0x01};",
+    b"#define\t d_width\t 3 \t\n#define  d_height 1\t\nstatic\tunsigned \tchar \td_bits[]\t=\t{ 0x05 } ; ",
+    b"#define a_width_width 17\n#define a_width_height 1\nstatic char a_width_bits[] = {0x10 , 0x20\n,\n\t0x01\n}\n;\n",
+    b"#define \xff\0\r#_width 16\n#define \xff\0\r#_height 1\nstatic char \xff\0\r#_bits[] = {0x5a, 0xa5};\n",
+    b"#define s_width 2\n#define s_height 2\n#define s_x_hot -2147483648\n#define s_y_hot 2147483647\n\
+      static char s_bits[] = {0x03,0x02};\n",
+    b"#define u_width 100\n#define u_height 1\nstatic unsigned char u_bits[] = {\n   0x00, 0x01, 0x02, 0x03, \
+      0x04, 0x05, 0x06, 0x07, 0x08, 0x09, 0x0a, 0x0b,\n   0x0c};\n",
+    b"\n\n\n#define d_width 7\n#define d_height 1\nstatic char d_bits[] = {0x7F,\n\n\n};\n\n\n",
+    b"#define c_width 24\n#define c_height 2\nstatic char c_bits[] = {0x00,0x11,0x22,\n0x33,0x44,0x55};\n",
+    b"x\n#define nn_width 10\n#define nn_height 1\n#define nn_x_hot 0\n#define nn_y_hot -0\n\
+      static char nn_bits[] = {  0xfE  ,  0x03  ,  }  ;  ",
+    b"#define 0_width 8\n#define 0_height 4\nstatic unsigned char 0_bits[] = {\n   0x80, 0x40, 0x20, 0x10};\n",
+];
+
+struct Trials<'i> {
+    comparison: Comparison<'i>,
+    random: Random,
+}
+
+impl Trials<'_> {
+    fn families(&mut self) -> Tried {
+        self.cuts()?;
+        self.single_changes()?;
+        self.integers()?;
+        self.symbols()?;
+        self.preambles()?;
+        self.cells()?;
+        self.pixel_buffers()?;
+        self.separators()?;
+        self.short_tails()?;
+        self.decoders_at_the_limits()
+    }
+
+    /// Every cut of the sound texts. The bytes after the cut stay where they are in memory.
+    fn cuts(&mut self) -> Tried {
+        for text in SOUND {
+            let whole = self.header(text)?;
+            let header = whole.expect("a sound text").header;
+            for n in 0..=text.len() {
+                let cut = &text[..n];
+                for pixels in lengths(&header) {
+                    self.image(cut, pixels)?;
+                }
+                self.every_call(cut)?;
+            }
+        }
+        Ok(())
+    }
+
+    /// Every byte of the sound texts changed, put in, taken out, doubled and swapped with the next.
+    fn single_changes(&mut self) -> Tried {
+        let every: Vec<u8> = (0..=255).collect();
+        for (i, text) in SOUND.into_iter().enumerate() {
+            let bytes = if i < 2 { &every } else { TELLING };
+            for at in 0..text.len() {
+                let mut changed = text.to_vec();
+                for &byte in bytes {
+                    changed[at] = byte;
+                    self.main_calls(&changed)?;
+                }
+                let mut longer = text.to_vec();
+                longer.insert(at, text[at]);
+                self.main_calls(&longer)?;
+                for &byte in TELLING {
+                    longer[at] = byte;
+                    self.main_calls(&longer)?;
+                }
+                let mut shorter = text.to_vec();
+                shorter.remove(at);
+                self.main_calls(&shorter)?;
+                if at + 1 < text.len() {
+                    let mut swapped = text.to_vec();
+                    swapped.swap(at, at + 1);
+                    self.main_calls(&swapped)?;
+                }
+            }
+        }
+        Ok(())
+    }
+
+    /// Every listed token and every short one in all four lines, with what may and may not follow it.
+    fn integers(&mut self) -> Tried {
+        let mut tokens: Vec<Vec<u8>> = TOKENS.iter().map(|t| t.as_bytes().to_vec()).collect();
+        tokens.extend(words(b"019-+ \rz", 3));
+        for length in 9..=13 {
+            for first in *b"0149-" {
+                for last in *b"0159z\r " {
+                    let mut token = vec![b'2'; length];
+                    token[0] = first;
+                    token[length - 1] = last;
+                    tokens.push(token);
+                }
+            }
+        }
+        let mut mask = Mask::new("d", 9, 1, vec![1, 0]);
+        mask.layout = Layout::Compact;
+        mask.hotspot = Some([b"3".to_vec(), b"4".to_vec()]);
+        for token in &tokens {
+            for line in 0..4 {
+                for end in ["", " ", "\t ", " z"] {
+                    let mut mask = mask.clone();
+                    let [x, y] = mask.hotspot.as_mut().unwrap();
+                    let replaced = [&mut mask.width, &mut mask.height, x, y].into_iter().nth(line);
+                    *replaced.unwrap() = [token, end.as_bytes()].concat();
+                    let text = mask.text(&mut self.random);
+                    self.main_calls(&text)?;
+                    // The text ends with the token.
+                    let place = nth_newline(&text, line);
+                    self.main_calls(&text[..place])?;
+                    self.main_calls(&text[..place + 1])?;
+                }
+            }
+        }
+        Ok(())
+    }
+
+    /// Symbols around the limit of the lent name buffer, with and without their ending.
+    fn symbols(&mut self) -> Tried {
+        for length in (0..=8).chain(240..=256) {
+            for ending in ["_width", "_widt", "width", "_Width"] {
+                let mut mask = Mask::new("", 9, 1, vec![1, 0]);
+                mask.name = vec![b'n'; length];
+                let mut text = mask.text(&mut self.random);
+                let start = "#define ".len() + length;
+                text.splice(start..start + "_width".len(), ending.bytes());
+                let end = start + ending.len();
+                let symbol = length + ending.len();
+                let around = symbol.saturating_sub(8)..=symbol + 2;
+                for buffer in around.chain(0..=8).chain([NAME_BUFFER_LENGTH, LONGEST_NAME]) {
+                    for cut in [end - 1, end, end + 1, text.len()] {
+                        self.comparison.read_header(&text[..cut], buffer)?;
+                        self.comparison.read_image(&text[..cut], buffer, 9)?;
+                    }
+                    for byte in *b"\n\t\rz" {
+                        let mut ended = text.clone();
+                        ended[end] = byte;
+                        self.comparison.read_header(&ended, buffer)?;
+                    }
+                }
+            }
+        }
+        Ok(())
+    }
+
+    /// Leading lines of every short length, with bytes that a search by words could take for a newline.
+    fn preambles(&mut self) -> Tried {
+        for length in 0..=40usize {
+            for byte in *b"c\x0b\x8a\0\xff\t#" {
+                for newline in [0, length / 3, length / 2, length.saturating_sub(1), length] {
+                    let mut text = vec![byte; length];
+                    text.insert(0, b'/');
+                    text.insert(newline + 1, b'\n');
+                    text.extend_from_slice(b"\n");
+                    text.extend_from_slice(SOUND[0]);
+                    self.main_calls(&text)?;
+                    for cut in 0..=length + 4 {
+                        self.header(&text[..cut])?;
+                    }
+                    // No newline at all before the define.
+                    let flat: Vec<u8> =
+                        text.iter().map(|&b| if b == b'\n' { b'n' } else { b }).collect();
+                    self.header(&flat)?;
+                }
+            }
+        }
+        Ok(())
+    }
+
+    /// Every value of a data byte at every width up to three bytes.
+    fn cells(&mut self) -> Tried {
+        for width in 1..=24 {
+            let row = texts::row_bytes(width);
+            for value in 0..=255u8 {
+                let data = (0..2 * row).map(|i| value.rotate_left(i as u32)).collect();
+                let mut mask = Mask::new("d", width, 2, data);
+                mask.layout = if value % 2 == 0 { Layout::Compact } else { Layout::Tools };
+                let text = mask.text(&mut self.random);
+                self.image(&text, 2 * width)?;
+            }
+        }
+        Ok(())
+    }
+
+    /// Every length of the pixel buffer up to two rows too many, for sound and broken texts.
+    fn pixel_buffers(&mut self) -> Tried {
+        for (width, height) in
+            [(1, 3), (3, 3), (7, 1), (8, 2), (9, 1), (9, 4), (16, 2), (17, 2), (40, 1)]
+        {
+            let bytes = texts::row_bytes(width) * height;
+            let data: Vec<u8> = (0..bytes).map(|i| (i * 37 + 11) as u8).collect();
+            for layout in [Layout::Compact, Layout::Tools, Layout::Loose] {
+                for given in bytes.saturating_sub(2)..=bytes + 1 {
+                    let mut mask = Mask::new("d", width, height, data.clone());
+                    mask.data.resize(given, 0x66);
+                    mask.layout = layout;
+                    let text = mask.text(&mut self.random);
+                    for ending in ["", "z", "\n ;"] {
+                        let text = [&text, ending.as_bytes()].concat();
+                        for pixels in 0..=(height + 2) * width + 1 {
+                            self.image(&text, pixels)?;
+                        }
+                    }
+                }
+            }
+        }
+        Ok(())
+    }
+
+    /// Every short run of bytes between two data bytes, and every cut of what follows.
+    fn separators(&mut self) -> Tried {
+        let header = "#define d_width 32\n#define d_height 1\nstatic char d_bits[] = {";
+        for between in words(b", \n\t0", 4) {
+            let mut text = header.as_bytes().to_vec();
+            text.extend_from_slice(b"0x01, 0x02");
+            text.extend_from_slice(&between);
+            text.extend_from_slice(b"0xA3, 0x0f};");
+            self.image(&text, 32)?;
+            for spent in 0..=1 {
+                let byte = header.len() as u64 + 4 * spent;
+                let location = Place { byte, line: 3, column: byte - 38 };
+                let decoder =
+                    StreamDecoder { width: 32, height: 1, current_position: spent, location };
+                self.comparison.next_bytes(&text, decoder, 8)?;
+            }
+            for cut in header.len() + 8..text.len() {
+                self.image(&text[..cut], 32)?;
+            }
+        }
+        Ok(())
+    }
+
+    /// Every short text after a header's end, with decoders before, between and past the data bytes.
+    fn short_tails(&mut self) -> Tried {
+        for tail in words(b"0x1,}; \ng", 5) {
+            for position in 0..=2 {
+                let decoder = StreamDecoder {
+                    width: 9,
+                    height: 1,
+                    current_position: position,
+                    location: Place::START,
+                };
+                self.comparison.next_bytes(&tail, decoder, 4)?;
+            }
+        }
+        Ok(())
+    }
+
+    /// Decoders whose numbers stand at, before and past each limit of the foreign rule.
+    fn decoders_at_the_limits(&mut self) -> Tried {
+        let sides = [0, 1, 7, 8, 9, 64, u32::MAX - 7, u32::MAX];
+        for text in [SOUND[0], b"", b"0x01", b"\n\n,0x01\n};", b"};", b"\n"] {
+            let length = text.len() as u64;
+            for width in sides {
+                for height in sides {
+                    let size = data_size(width, height) as u64;
+                    for current_position in near(size).chain([0, 1]) {
+                        for byte in near(length).chain([0, length / 2]) {
+                            for line in near(byte.wrapping_add(1)).chain([0, 1]) {
+                                for column in near(byte).chain([0]) {
+                                    let location = Place { byte, line, column };
+                                    let decoder =
+                                        StreamDecoder { width, height, current_position, location };
+                                    self.comparison.next_bytes(text, decoder, 2)?;
+                                }
+                            }
+                        }
+                    }
+                }
+            }
+        }
+        Ok(())
+    }
+
+    /// One drawn text: sound, damaged, misshapen, or no mask at all.
+    fn drawn(&mut self) -> Tried {
+        let random = &mut self.random;
+        let text = match random.below(16) {
+            0..=4 => Mask::random(random).text(random),
+            5..=10 => {
+                let mut text = if random.once_in(3) {
+                    random.pick(&SOUND).to_vec()
+                } else {
+                    Mask::random(random).text(random)
+                };
+                for _ in 0..random.within(1, 3) {
+                    texts::damage(random, &mut text);
+                }
+                text
+            }
+            11..=14 => texts::misshapen(random),
+            _ => {
+                let length = random.below(40);
+                (0..length).map(|_| random.pick_byte(TELLING)).collect()
+            }
+        };
+        self.every_call(&text)
+    }
+
+    /// The header with a name buffer of the original's length.
+    fn header(&mut self, text: &[u8]) -> Result<Option<ReadHeader>, Difference> {
+        self.comparison.read_header(text, NAME_BUFFER_LENGTH)
+    }
+
+    /// The image with a name buffer of the original's length.
+    fn image(&mut self, text: &[u8], pixel_length: usize) -> Tried {
+        self.comparison.read_image(text, NAME_BUFFER_LENGTH, pixel_length)
+    }
+
+    /// The header, the image with a drawn pixel buffer, a few data bytes.
+    fn main_calls(&mut self, text: &[u8]) -> Tried {
+        let read = self.header(text)?;
+        let pixels = self.pixel_length(read.map(|read| read.header));
+        self.image(text, pixels)?;
+        if let Some(read) = read {
+            let decoder = after_header(&read.header, read.place);
+            let calls = self.random.within(1, 8);
+            self.comparison.next_bytes(text, decoder, calls)?;
+        }
+        Ok(())
+    }
+
+    /// The main calls, then the same with other name buffers, all data bytes and a lent decoder.
+    fn every_call(&mut self, text: &[u8]) -> Tried {
+        self.main_calls(text)?;
+        let name = match self.random.below(3) {
+            0 => self.random.within(0, 12),
+            1 => self.random.within(240, 310),
+            _ => self.random.within(0, 300),
+        };
+        let read = self.comparison.read_header(text, name)?;
+        let header = read.map(|read| read.header);
+        if self.random.once_in(4) {
+            let pixels = self.pixel_length(header);
+            self.comparison.read_image(text, name, pixels)?;
+        }
+        if let (Some(read), true) = (read, self.random.once_in(8)) {
+            let decoder = after_header(&read.header, read.place);
+            self.comparison.next_bytes(text, decoder, usize::MAX)?;
+        }
+        let decoder = self.decoder(text, header);
+        let calls = self.random.within(1, 6);
+        self.comparison.next_bytes(text, decoder, calls)
+    }
+
+    /// A pixel buffer: exact, a row or a cell away from it, empty, shorter than a row, or any.
+    fn pixel_length(&mut self, header: Option<Header>) -> usize {
+        let Some(header) = header else {
+            return self.random.below(40);
+        };
+        let [exact, others @ ..] = lengths(&header);
+        match self.random.below(12) {
+            0..=3 => exact,
+            4 => self.random.below(exact + 2).min(LONGEST_BUFFER),
+            _ => others[self.random.below(others.len())],
+        }
+    }
+
+    /// A decoder with drawn numbers: mostly ones that some header could have given, some foreign.
+    fn decoder(&mut self, text: &[u8], header: Option<Header>) -> StreamDecoder {
+        let random = &mut self.random;
+        let side = |random: &mut Random| match random.below(16) {
+            0 => u32::MAX - random.below(9) as u32,
+            1 => random.word() as u32,
+            2 if random.once_in(4) => 0,
+            _ => random.within(1, 20) as u32,
+        };
+        let (width, height) = match header {
+            Some(header) if random.once_in(2) => (header.width, header.height),
+            _ => (side(random), side(random)),
+        };
+        let size = data_size(width, height) as u64;
+        let current_position = match random.below(10) {
+            0 | 1 => 0,
+            2 | 3 => size,
+            4 => size.saturating_sub(1),
+            5 => size + 1 - u64::from(random.once_in(2)),
+            6 if random.once_in(4) => random.word(),
+            _ => random.word() % (size + 1),
+        };
+        let byte = match random.below(10) {
+            0..=5 => byte_in_data(random, text),
+            6 if random.once_in(4) => random.word(),
+            7 if random.once_in(4) => text.len() as u64 + 1,
+            _ => random.below(text.len() + 1) as u64,
+        };
+        let line = match random.below(8) {
+            0 => byte.saturating_add(1),
+            1 if random.once_in(4) => byte.saturating_add(2),
+            2 => 0,
+            _ => random.word() % byte.saturating_add(2).max(1),
+        };
+        let column = match random.below(8) {
+            0 => byte,
+            1 if random.once_in(4) => byte.saturating_add(1),
+            2 => 0,
+            _ => random.word() % byte.saturating_add(1).max(1),
+        };
+        StreamDecoder { width, height, current_position, location: Place { byte, line, column } }
+    }
+}
+
+/// A place in the data: after the brace, or before some comma, digit or brace of the end.
+fn byte_in_data(random: &mut Random, text: &[u8]) -> u64 {
+    let brace = text.iter().position(|&b| b == b'{').map_or(0, |at| at + 1);
+    let from = brace + random.below(text.len() - brace + 1);
+    let stops: &[u8] = random.pick(&[b",", b"0", b"}", b"{", b";"]);
+    let found = text[from..].iter().position(|b| stops.contains(b));
+    found.map_or(brace, |at| from + at) as u64
+}
+
+fn after_header(header: &Header, location: Place) -> StreamDecoder {
+    StreamDecoder { width: header.width, height: header.height, current_position: 0, location }
+}
+
+/// Telling lengths of the pixel buffer for a header; the first is exact where the picture is small.
+fn lengths(header: &Header) -> [usize; 9] {
+    let (width, height) = (header.width as usize, header.height as usize);
+    let exact = width.saturating_mul(height);
+    let some = if exact <= LONGEST_BUFFER / 2 {
+        [
+            exact,
+            exact + width,
+            exact - width,
+            exact + 1,
+            exact - 1,
+            0,
+            width - 1,
+            width,
+            exact + 2 * width + 1,
+        ]
+    } else if width <= LONGEST_BUFFER / 4 {
+        [width, 2 * width, 3 * width, width + 1, 2 * width - 1, 0, width - 1, 1, 2 * width + 1]
+    } else {
+        [9, 18, 27, 1, 100, 0, 8, 16, 17]
+    };
+    some.map(|length| length.min(LONGEST_BUFFER))
+}
+
+/// All words of at most so many of the letters.
+fn words(letters: &[u8], longest: usize) -> Vec<Vec<u8>> {
+    let mut all = vec![Vec::new()];
+    let mut last = all.clone();
+    for _ in 0..longest {
+        last = last
+            .iter()
+            .flat_map(|word| letters.iter().map(|&b| [word.as_slice(), &[b]].concat()))
+            .collect();
+        all.extend_from_slice(&last);
+    }
+    all
+}
+
+/// A number, the ones beside it, and the largest.
+fn near(number: u64) -> impl Iterator<Item = u64> {
+    [number.saturating_sub(1), number, number.saturating_add(1), u64::MAX].into_iter()
+}
+
+/// The index of the newline that ends the line counted from 0.
+fn nth_newline(text: &[u8], line: usize) -> usize {
+    let newlines = text.iter().enumerate().filter(|(_, &b)| b == b'\n');
+    newlines.map(|(at, _)| at).nth(line).expect("a header has its lines")
+}
+
+#[cfg(test)]
+mod tests {
+    use super::*;
+    use crate::interface;
+    use crate::mock::{self, Fault};
+
+    /// The seed of the tests.
+    const SEED: u64 = 1;
+
+    #[test]
+    fn original_agrees_with_itself_and_reaches_every_number() {
+        let tally = run(&mock::without_fault(), SEED, 0).unwrap_or_else(|e| panic!("{e}"));
+        assert_eq!(tally.unreached(), Vec::<String>::new(), "{}", tally.summary());
+    }
+
+    #[test]
+    fn drawn_texts_alone_reach_every_number() {
+        let interface = mock::without_fault();
+        let mut trials =
+            Trials { comparison: Comparison::new(&interface), random: Random::new(SEED) };
+        for _ in 0..20_000 {
+            trials.drawn().unwrap_or_else(|e| panic!("{e}"));
+        }
+        let tally = trials.comparison.tally;
+        assert_eq!(tally.unreached(), Vec::<String>::new(), "{}", tally.summary());
+    }
+
+    #[test]
+    #[cfg_attr(not(has_library), ignore = "skipped: built without the proved reader")]
+    fn library_agrees_with_the_original() {
+        let interface = interface::linked().expect("the library is linked");
+        run(&interface, SEED, 0).unwrap_or_else(|e| panic!("{e}"));
+    }
+
+    #[test]
+    fn planted_faults_are_caught() {
+        for fault in Fault::ALL {
+            let caught = run(&mock::with_fault(fault), SEED, 0);
+            let Err(difference) = caught else {
+                panic!("{fault:?} passed unseen");
+            };
+            println!("{fault:?}:\n{difference}");
+        }
+    }
+}
