@@ -1,0 +1,76 @@
+/* Reading XBM masks held in memory: the header, one data byte at a time, or the whole picture.
+ *
+ * Every call takes any text and any buffers, of any length; a buffer of length 0 may be a null pointer.
+ * Nothing outside the lent memory is read or written, and every call returns.
+ *
+ * A result of 0 means accepted. Any other result is the number of a refusal:
+ *   1 width line, 2 height line, 3 hotspot x line, 4 hotspot y line, 5 array line,
+ *   6 data bytes, 7 trailer up to `;`, 8 bytes after `;`          (these tell a place)
+ *   9 a decoder whose numbers no header of this text gave
+ *   11, 12, 13, 14 width, height, x, y is no integer in range
+ *   21, 22 width, height is zero
+ *   31 the pixel buffer's whole rows are not the picture's
+ *
+ * All eight entries of `report` and both of `hotspot` are written at every call:
+ *   report[0], [1], [2]  the place told: byte, line, column; all 0 where none is told
+ *   report[3], [4]       width, height of an accepted header or picture, else 0
+ *   report[5]            the length of the name, which stands at the start of the name buffer;
+ *                        0 if the header is refused
+ *   report[6]            1 if an accepted header or picture has a hotspot, else 0
+ *   report[7]            xbm_next_byte: the data byte, or 256 when none is left; else 0
+ *   hotspot[0], [1]      x, y of the hotspot, or 0, 0 where report[6] is 0
+ */
+#ifndef XBM_H
+#define XBM_H
+
+#include <stddef.h>
+#include <stdint.h>
+
+#ifdef __cplusplus
+extern "C" {
+#endif
+
+/* A place in a text: the count of bytes taken, the line from 1, the column from 0. */
+typedef struct XbmTextLocation {
+    uint64_t byte;
+    uint64_t line;
+    uint64_t column;
+} XbmTextLocation;
+
+/* A decoder: the sides, how many data bytes were asked for, the place in the text. It does not hold the text. */
+typedef struct XbmStreamDecoder {
+    uint32_t width;
+    uint32_t height;
+    uint64_t current_position;
+    XbmTextLocation location;
+} XbmStreamDecoder;
+
+/* Reads the header, up to and including the opening brace.
+ * The width's symbol is stored at the start of `name` as far as it was read, the rest of `name` stays as lent;
+ * `name_len` is the longest symbol that passes. An accepted header tells the place after the brace. */
+uint32_t xbm_read_header(const uint8_t *text, size_t text_len,
+                         uint8_t *name, size_t name_len,
+                         uint64_t report[8], int32_t hotspot[2]);
+
+/* Gives the next data byte of the text, or reads the trailer after the last one, and changes the decoder.
+ * A data byte is counted before it is read, so a refused call has spent it and later calls go on from the
+ * place told. To start, fill the decoder from xbm_read_header's report, with current_position 0.
+ * A foreign decoder gets 9 and stays unchanged. */
+uint32_t xbm_next_byte(const uint8_t *text, size_t text_len,
+                       XbmStreamDecoder *decoder,
+                       uint64_t report[8]);
+
+/* Reads the whole picture: the header, then `pixels_len / width` rows of `width` cells; a set bit gives 0, any other 255.
+ * A refused header touches no cell. A later refusal leaves the cells of every data byte read so far, where they fall
+ * in a whole row of the buffer, as decoded, and the rest as lent. Cells past the last whole row are never touched.
+ * 31 comes only after the next data byte was read (too few rows) or after a sound trailer (too many rows). */
+uint32_t xbm_read_image(const uint8_t *text, size_t text_len,
+                        uint8_t *name, size_t name_len,
+                        uint8_t *pixels, size_t pixels_len,
+                        uint64_t report[8], int32_t hotspot[2]);
+
+#ifdef __cplusplus
+}
+#endif
+
+#endif
