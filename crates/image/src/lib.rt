@@ -152,13 +152,7 @@ fn unpack(v: u8, pixels: &mut [u8], start: usize, n: usize)
 }
 
 // Fills the whole rows of `width` cells that the buffer has, as far as the picture goes; no side is zero.
-fn read_rows(
-    text: &[u8],
-    place: TextLocation,
-    width: u32,
-    height: u32,
-    pixels: &mut [u8],
-) -> Rows
+fn read_rows(text: &[u8], place: TextLocation, width: u32, height: u32, pixels: &mut [u8]) -> Rows
     requires { ⌜ (width ≡ 0 → ⊥) × (height ≡ 0 → ⊥) ⌝ }
     ensures { λ r. ⌜ Filled width height (now (text .entry)) place (now (pixels .entry)) (now (pixels .exit)) r ⌝ }
 {
