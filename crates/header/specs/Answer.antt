@@ -77,21 +77,25 @@ stored limit t = storedIn limit t (opening t start)
 
 -- ---- the header's parts, as the code reads them
 
+-- a value, and the integer that it is
 unfoldable pub unsignedLine : ℕ → Reader ℕ
 unsignedLine c = value c give >>= unsigned (c + 10)
 
 unfoldable pub signedLine : ℕ → Reader ℤ
 signedLine c = value c give >>= signed (c + 10)
 
+-- a define line whose symbol is known, with its integer
 unfoldable pub sideLine : ℕ → List ℕ → List ℕ → Reader ℕ
 sideLine c name z = symbol c name z >> unsignedLine c
 
 unfoldable pub coordinateLine : ℕ → List ℕ → List ℕ → Reader ℤ
 coordinateLine c name z = symbol c name z >> signedLine c
 
+-- the hotspot's two lines
 unfoldable pub spot : List ℕ → Reader (ℤ × ℤ)
 spot name = coordinateLine 3 name (ascii "_x_hot") >>= λ x. coordinateLine 4 name (ascii "_y_hot") >>= λ y. give (x, y)
 
+-- the array line; what follows the height line; the height line too; all that follows the width's symbol
 unfoldable pub endingOf : List ℕ → ℕ → ℕ → Option (ℤ × ℤ) → Reader Head
 endingOf name w h o = ending name w h o
 
@@ -108,11 +112,13 @@ sidesOf name = unsignedLine 1 >>= λ v. need 21 (positive v) >>= λ w. heightOf 
 unfoldable pub widthSymbol : ℕ → Reader (List ℕ)
 widthSymbol limit = opening >> token isLoose 1 limit >>= λ s. want 1 (before endWidth s)
 
+-- reading the width's symbol into a lent buffer: the name in it, within the buffer; and the buffer later
 pub record Symboled (text lent later : List ℕ) (r : Token) : Type 0 where
   pub answer : toldToken later r ≡ widthSymbol (length lent) text start
   pub fits : sizeOf r ≤ length later
   pub symbol : later ≡ overlay (stored (length lent) text) lent
 
+-- reading a value into the digits: its token, within them
 pub record Valued (c : ℕ) (text : List ℕ) (place : TextLocation) (later : List ℕ) (r : Token) : Type 0 where
   pub answer : toldToken later r ≡ value c give text place
   pub fits : sizeOf r ≤ length later
