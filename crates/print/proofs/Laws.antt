@@ -5,10 +5,11 @@ use mir.Syntax.{w32, w64}
 use mir.Val.{Fits, SFits, toZ, ofZ}
 use mir.ValLaws.{toZ-ofZ}
 use lib.IntN.{ℤ, pos, negsuc, negℤ, natAbs, _-ℤ_, +ℤ-idl}
-use lib.Signed.{nonNeg, _<ℤ_, _≤ℤ_}
-use lib.Dec.{T, ltb→lt}
+use lib.Signed.{nonNeg, ltZ}
+use lib.Dec.{T}
+use mathlib.Core.Bool.{true, false, false≢true}
 use native.Mathlib.Numerals.{add-one}
-use borrow.Author.Tests.{lt-ltb, le-ltb}
+use borrow.Author.Tests.{lt-ltb, le-ltb, ltb-true}
 use mathlib.Core.Path.{_≡_, refl, sym, ap, _∙_}
 use mathlib.Core.List.{List, [], _∷_, _++_}
 use lib.ListN.{length, drop, set, getD, drop-of-length-le}
@@ -81,34 +82,34 @@ module _ (z : ℤ) (k : SFits w32 z) where
   magnitude-is : kept64 (pos 0 -ℤ kept64 (kept32 z)) ≡ negℤ z
   magnitude-is = toZ-ofZ w64 (pos 0 -ℤ kept64 (kept32 z)) minus-fits ∙ minus-is
 
-  pub magnitude-fits : z <ℤ pos 0 → T (nonNeg (kept64 (pos 0 -ℤ kept64 (kept32 z)))) × Fits w64 (natAbs (kept64 (pos 0 -ℤ kept64 (kept32 z))))
-  magnitude-fits h = rw magnitude-is (go z k h)
+  pub magnitude-fits : ltZ (kept32 z) (pos 0) ≡ true → T (nonNeg (kept64 (pos 0 -ℤ kept64 (kept32 z)))) × Fits w64 (natAbs (kept64 (pos 0 -ℤ kept64 (kept32 z))))
+  magnitude-fits h = rw magnitude-is (go z k (rw (toZ-ofZ w32 z k) at h))
     where
-      go : (z : ℤ) → SFits w32 z → z <ℤ pos 0 → T (nonNeg (negℤ z)) × Fits w64 (natAbs (negℤ z))
-      go (pos n) k h = absurd (omega (arith, ltb→lt n 0 (h .lt)))
+      go : (z : ℤ) → SFits w32 z → ltZ z (pos 0) ≡ true → T (nonNeg (negℤ z)) × Fits w64 (natAbs (negℤ z))
+      go (pos n) k h = absurd (omega (arith, ltb-true n 0 h))
       go (negsuc n) k h = (tt, record { fits = omega (arith, k .sfits) })
 
-  pub plain-fits : pos 0 ≤ℤ z → T (nonNeg (kept32 z)) × Fits w64 (natAbs (kept32 z))
-  plain-fits h = rw (toZ-ofZ w32 z k) (go z k h)
+  pub plain-fits : ltZ (kept32 z) (pos 0) ≡ false → T (nonNeg (kept32 z)) × Fits w64 (natAbs (kept32 z))
+  plain-fits h = rw (toZ-ofZ w32 z k) (go z k (rw (toZ-ofZ w32 z k) at h))
     where
-      go : (z : ℤ) → SFits w32 z → pos 0 ≤ℤ z → T (nonNeg z) × Fits w64 (natAbs z)
+      go : (z : ℤ) → SFits w32 z → ltZ z (pos 0) ≡ false → T (nonNeg z) × Fits w64 (natAbs z)
       go (pos n) k h = (tt, record { fits = omega (arith, k .sfits) })
-      go (negsuc n) k h = absurd (h .le)
+      go (negsuc n) k h = absurd (false≢true (sym h))
 
   module _ (s : List ℕ) (at : ℕ) {s′ : List ℕ} {r : ℕ} where
-    pub signed-minus : {s₁ : List ℕ} {r₁ : ℕ} → z <ℤ pos 0 → output s₁ r₁ ≡ put 45 (output s at) → output s′ r ≡ puts (decimal (natAbs (kept64 (pos 0 -ℤ kept64 (kept32 z))))) (output s₁ r₁)
+    pub signed-minus : {s₁ : List ℕ} {r₁ : ℕ} → ltZ (kept32 z) (pos 0) ≡ true → output s₁ r₁ ≡ put 45 (output s at) → output s′ r ≡ puts (decimal (natAbs (kept64 (pos 0 -ℤ kept64 (kept32 z))))) (output s₁ r₁)
         → output s′ r ≡ puts (signed z) (output s at)
-    signed-minus h e f = f ∙ ap (puts (decimal (natAbs (kept64 (pos 0 -ℤ kept64 (kept32 z)))))) e ∙ ap (λ (n : ℤ). puts (decimal (natAbs n)) (put 45 (output s at))) magnitude-is ∙ go z h
+    signed-minus h e f = f ∙ ap (puts (decimal (natAbs (kept64 (pos 0 -ℤ kept64 (kept32 z)))))) e ∙ ap (λ (n : ℤ). puts (decimal (natAbs n)) (put 45 (output s at))) magnitude-is ∙ go z (rw (toZ-ofZ w32 z k) at h)
       where
-        go : (z : ℤ) → z <ℤ pos 0 → puts (decimal (natAbs (negℤ z))) (put 45 (output s at)) ≡ puts (signed z) (output s at)
-        go (pos n) h = absurd (omega (arith, ltb→lt n 0 (h .lt)))
+        go : (z : ℤ) → ltZ z (pos 0) ≡ true → puts (decimal (natAbs (negℤ z))) (put 45 (output s at)) ≡ puts (signed z) (output s at)
+        go (pos n) h = absurd (omega (arith, ltb-true n 0 h))
         go (negsuc n) h = refl
 
-    pub signed-plain : pos 0 ≤ℤ z → output s′ r ≡ puts (decimal (natAbs (kept32 z))) (output s at) → output s′ r ≡ puts (signed z) (output s at)
-    signed-plain h f = f ∙ ap (λ (n : ℤ). puts (decimal (natAbs n)) (output s at)) (toZ-ofZ w32 z k) ∙ go z h
+    pub signed-plain : ltZ (kept32 z) (pos 0) ≡ false → output s′ r ≡ puts (decimal (natAbs (kept32 z))) (output s at) → output s′ r ≡ puts (signed z) (output s at)
+    signed-plain h f = f ∙ ap (λ (n : ℤ). puts (decimal (natAbs n)) (output s at)) (toZ-ofZ w32 z k) ∙ go z (rw (toZ-ofZ w32 z k) at h)
       where
-        go : (z : ℤ) → pos 0 ≤ℤ z → puts (decimal (natAbs z)) (output s at) ≡ puts (signed z) (output s at)
+        go : (z : ℤ) → ltZ z (pos 0) ≡ false → puts (decimal (natAbs z)) (output s at) ≡ puts (signed z) (output s at)
         go (pos n) h = refl
-        go (negsuc n) h = absurd (h .le)
+        go (negsuc n) h = absurd (false≢true (sym h))
 
 pub ruleset signed·laws = (wide-fits, minus-fits, magnitude-fits, plain-fits, signed-minus, signed-plain)

@@ -1,5 +1,5 @@
 use borrow.Author.Needs.{needs}
-use Rattle.print.proofs.Laws.{signed·laws}
+use Rattle.print.proofs.Laws.{signed·laws, magnitude-fits, plain-fits}
 use Rattle.print.proofs.put_signed.Statement.{statement}
 use Rattle.print.proofs.put_signed.Tie as tie
 use Rattle.print.proofs.put_signed.Reads as reads
@@ -21,7 +21,7 @@ sub-put-decimal c = search (signed·laws, needs)
 
 -- src/lib.rt:47:39
 cast-put-decimal-2 : tie.Need-cast-put-decimal-2
-cast-put-decimal-2 c = search (signed·laws, needs)
+cast-put-decimal-2 c = magnitude-fits _ (c .before .before .before .before .before .before .before .fits .z) (c .before .before .before .before .before .if1 .taken)
 
 -- src/lib.rt:47:9
 put-decimal-requires : tie.Need-put-decimal-requires
@@ -37,7 +37,7 @@ returns c = search (signed·laws, needs)
 
 -- src/lib.rt:49:26
 cast-put-decimal-3 : tie.Need-cast-put-decimal-3
-cast-put-decimal-3 c = search (signed·laws, needs)
+cast-put-decimal-3 c = plain-fits _ (c .before .before .before .fits .z) (c .before .if1 .left)
 
 -- src/lib.rt:49:5
 put-decimal-requires-2 : tie.Need-put-decimal-requires-2
