@@ -116,7 +116,7 @@ module _ {r : Result Head} where
 
 module _ (t name name′ : List ℕ) {h : HeaderAnswer} (k : Headed t name name′ h) where
   module _ {d : XbmHeaderData} {p : TextLocation} (e : h .header ≡ HeadRead d p) where
-    head-is : header (length name) t start ≡ ok (headOf (take (h .name) name′) d) p
+    pub head-is : header (length name) t start ≡ ok (headOf (take (h .name) name′) d) p
     head-is = accepted-is (rw e at (k .answer))
 
     pub head-sides : Sided d

@@ -11,10 +11,10 @@ use mathlib.Core.Bool.{true, false, false≢true}
 use native.Mathlib.Numerals.{add-one}
 use borrow.Author.Tests.{lt-ltb, le-ltb, ltb-true}
 use mathlib.Core.Path.{_≡_, refl, sym, ap, _∙_}
-use mathlib.Core.List.{List, [], _∷_, _++_}
+use mathlib.Core.List.{List, [], _∷_, _++_, append-nil}
 use lib.ListN.{length, drop, set, getD, drop-of-length-le}
 use lib.Seq.{drop-cons}
-use Rattle.print.specs.Output.{Output, output, put, puts, puts-append}
+use Rattle.print.specs.Output.{Output, output, put, puts, joined, puts-append}
 use Rattle.print.specs.Decimal.{decimal, signed, decimal-small, decimal-large}
 
 module _ (b : ℕ) (s : List ℕ) (n : ℕ) where
@@ -39,9 +39,11 @@ module _ (w s₀ : List ℕ) (n₀ : ℕ) where
 
   module _ (s : List ℕ) (n i : ℕ) (p : Putting w s₀ n₀ s n i) where
     pub putting-more : {s′ : List ℕ} {n′ : ℕ} → i < length w → length s′ ≡ length s → output s′ n′ ≡ put (getD w i 0) (output s n) → Putting w s₀ n₀ s′ n′ (i + 1)
+    unfolding puts
     putting-more h k e = record { size = k ∙ p .size; left = ap (puts (drop (i + 1) w)) e ∙ (rw (drop-cons w i 0 h, ← add-one) at (p .left)) }
 
     pub putting-done : length w ≤ i → output s n ≡ puts w (output s₀ n₀)
+    unfolding puts
     putting-done h = rw (drop-of-length-le w h) at (p .left)
 
 pub ruleset putting·laws = (putting-none, putting-more, putting-done)
@@ -49,10 +51,12 @@ pub ruleset putting·laws = (putting-none, putting-more, putting-done)
 -- digits
 module _ (n : ℕ) (s : List ℕ) (at : ℕ) where
   pub digit-only : {s′ : List ℕ} {r : ℕ} → n < 10 → output s′ r ≡ put (48 + n) (output s at) → output s′ r ≡ puts (decimal n) (output s at)
+  unfolding puts
   digit-only h e = e ∙ ap (λ (d : List ℕ). puts d (output s at)) (decimal-small n h)
 
   pub digit-last : {s₁ s′ : List ℕ} {r₁ r : ℕ} → 10 ≤ n → n < 2 ^ 64 → output s₁ r₁ ≡ puts (decimal (n / 10)) (output s at) → output s′ r ≡ put (48 + n % 10) (output s₁ r₁)
       → output s′ r ≡ puts (decimal n) (output s at)
+  unfolding puts
   digit-last h l e k = k ∙ ap (put (48 + n % 10)) e ∙ sym (puts-append (decimal (n / 10)) ((48 + n % 10) ∷ []) (output s at)) ∙ ap (λ (d : List ℕ). puts d (output s at)) (decimal-large n h l)
 
 pub ruleset digit·laws = (digit-only, digit-last)
@@ -99,6 +103,7 @@ module _ (z : ℤ) (k : SFits w32 z) where
   module _ (s : List ℕ) (at : ℕ) {s′ : List ℕ} {r : ℕ} where
     pub signed-minus : {s₁ : List ℕ} {r₁ : ℕ} → ltZ (kept32 z) (pos 0) ≡ true → output s₁ r₁ ≡ put 45 (output s at) → output s′ r ≡ puts (decimal (natAbs (kept64 (pos 0 -ℤ kept64 (kept32 z))))) (output s₁ r₁)
         → output s′ r ≡ puts (signed z) (output s at)
+    unfolding puts
     signed-minus h e f = f ∙ ap (puts (decimal (natAbs (kept64 (pos 0 -ℤ kept64 (kept32 z)))))) e ∙ ap (λ (n : ℤ). puts (decimal (natAbs n)) (put 45 (output s at))) magnitude-is ∙ go z (rw (toZ-ofZ w32 z k) at h)
       where
         go : (z : ℤ) → ltZ z (pos 0) ≡ true → puts (decimal (natAbs (negℤ z))) (put 45 (output s at)) ≡ puts (signed z) (output s at)
@@ -113,3 +118,15 @@ module _ (z : ℤ) (k : SFits w32 z) where
         go (negsuc n) h = absurd (false≢true (sym h))
 
 pub ruleset signed·laws = (wide-fits, minus-fits, magnitude-fits, plain-fits, signed-minus, signed-plain)
+
+-- a word of several
+module _ (s : List ℕ) (n : ℕ) {z : Output} where
+  pub puts-joined : {s′ : List ℕ} {n′ : ℕ} (w : List ℕ) (l : List (List ℕ)) → output s′ n′ ≡ puts w (output s n) → z ≡ puts (joined l) (output s′ n′) → z ≡ puts (joined (w ∷ l)) (output s n)
+  unfolding joined
+  puts-joined w l e k = k ∙ ap (puts (joined l)) e ∙ sym (puts-append w (joined l) (output s n))
+
+  pub puts-last : (w : List ℕ) → z ≡ puts w (output s n) → z ≡ puts (joined (w ∷ [])) (output s n)
+  unfolding joined
+  puts-last w k = k ∙ ap (λ (x : List ℕ). puts x (output s n)) (sym (append-nil w))
+
+pub ruleset joined·laws = (puts-joined, puts-last)

@@ -24,13 +24,19 @@ unfoldable pub put : ℕ → Output → Output
 put b o = output (pick (ltb (o .at) (length (o .bytes))) (set (o .bytes) (o .at) b) (o .bytes)) (pick (ltb (o .at) (length (o .bytes))) (o .at + 1) (o .at))
 
 -- a word more
-abbrev pub puts : List ℕ → Output → Output
+unfoldable pub puts : List ℕ → Output → Output
 puts [] o = o
 puts (b ∷ w) o = puts w (put b o)
+
+-- words one after another, as one
+unfoldable pub joined : List (List ℕ) → List ℕ
+joined [] = []
+joined (w ∷ l) = w ++ joined l
 
 -- ---- laws
 
 pub puts-append : (u v : List ℕ) (o : Output) → puts (u ++ v) o ≡ puts v (puts u o)
+unfolding puts
 puts-append [] v o = refl
 puts-append (b ∷ u) v o = puts-append u v (put b o)
 
@@ -40,6 +46,7 @@ put-room b s n h = rw (lt-ltb n (length s) h)
 
 -- a word that has room stands where it was put, and what follows it is as lent
 puts-on : (w s : List ℕ) (n : ℕ) → n + length w ≤ length s → puts w (output s n) ≡ output (take n s ++ (w ++ drop (n + length w) s)) (n + length w)
+unfolding puts
 puts-on [] s n h = let z : n + 0 ≡ n = omega arith in rw z (ap (λ (x : List ℕ). output x n) (sym (lib.ListN.take-append-drop n s)))
 puts-on (b ∷ w) s n h =
     let l : n < length s = omega arith in

@@ -1,0 +1,240 @@
+// The listing of a mask: what the program prints, made of a text in lent buffers.
+ghost use mathlib.Core.Path.{_≡_};
+ghost use Prim.Native.Nat.{_*_};
+ghost use mathlib.Core.List.{[]};
+ghost use Rattle.header.specs.Answer.{headOf, hotOf};
+ghost use Rattle.lexical.specs.Lexical.{number};
+ghost use Rattle.text.specs.Outcome.{refused, unplaced};
+ghost use Rattle.print.specs.Output.{output, puts};
+ghost use Rattle.listing.specs.Listing.{inkAt, inkOf, fieldText, placeText, pairText, hotText, sidesText, hotspotText, inkText, acceptedText, printed, answerText, Answered, Lists};
+ghost use Rattle.listing.specs.Code.{refusalOf, Imaging, Parted};
+use header::HeaderRead;
+use header::Hotspot;
+use header::XbmDecodeError;
+use header::XbmHeaderData;
+use header::read_xbm_header;
+use image::ImageRead;
+use image::read_image;
+use lexical::XbmPart;
+use print::put_bytes;
+use print::put_decimal;
+use print::put_signed;
+use text::TextLocation;
+
+// The header and the ink of an accepted mask; or a refusal's number, with its place where one is told.
+pub enum ListAnswer {
+    Accepted(XbmHeaderData, u64),
+    Refused(u8, TextLocation),
+    Unplaced(u8),
+}
+
+// A part's number.
+fn part_number(part: XbmPart) -> u8
+    ensures { λ r. ⌜ r ≡ number part ⌝ }
+{
+    match part {
+        XbmPart::Width => 1,
+        XbmPart::Height => 2,
+        XbmPart::HotspotX => 3,
+        XbmPart::HotspotY => 4,
+        XbmPart::Array => 5,
+        XbmPart::Data => 6,
+        XbmPart::ArrayEnd => 7,
+        XbmPart::Trailing => 8,
+    }
+}
+
+// A refusal by its number.
+fn refusal(e: XbmDecodeError) -> ListAnswer
+    ensures { λ r. ⌜ r ≡ refusalOf e ⌝ }
+{
+    match e {
+        XbmDecodeError::Parse(part, p) => ListAnswer::Refused(part_number(part), p),
+        XbmDecodeError::DecodeInteger(part) => ListAnswer::Unplaced(part_number(part) + 10),
+        XbmDecodeError::ZeroWidth => ListAnswer::Unplaced(21),
+        XbmDecodeError::ZeroHeight => ListAnswer::Unplaced(22),
+    }
+}
+
+// One for a cell of ink, which is 0.
+fn ink(cell: u8) -> u64
+    ensures { λ r. ⌜ r ≡ inkAt cell ⌝ }
+{
+    if cell == 0 {
+        return 1;
+    }
+    0
+}
+
+// How many cells are 0.
+fn count_ink(cells: &[u8]) -> u64
+    ensures { λ r. ⌜ r ≡ inkOf (now (cells .entry)) ⌝ }
+{
+    let mut n: u64 = 0;
+    let mut i = 0;
+    while i < cells.len() {
+        n += ink(cells[i]);
+        i += 1;
+    }
+    n
+}
+
+// The picture of a text, read into the cells lent.
+fn list_image(text: &[u8], name: &mut [u8], pixels: &mut [u8]) -> ListAnswer
+    ensures { λ r. ⌜ Imaging (now (text .entry)) (now (name .entry)) (now (pixels .entry)) (now (name .exit)) (now (pixels .exit)) r ⌝ }
+{
+    let read = read_image(text, name, pixels);
+    let image = read.image;
+    match image {
+        ImageRead::Read(d) => ListAnswer::Accepted(d, count_ink(pixels)),
+        ImageRead::Refused(e) => refusal(e),
+        ImageRead::DimensionMismatch => ListAnswer::Unplaced(31),
+    }
+}
+
+// The same, into the first n of the cells lent, or all where there are fewer.
+fn list_part(text: &[u8], name: &mut [u8], cells: &mut [u8], n: usize) -> ListAnswer
+    ensures { λ r. ⌜ Parted (now (text .entry)) (now (name .entry)) (now (cells .entry)) n (now (name .exit)) (now (cells .exit)) r ⌝ }
+{
+    if n < cells.len() {
+        return list_image(text, name, &mut cells[..n]);
+    }
+    list_image(text, name, cells)
+}
+
+// How many cells a picture has.
+fn cell_count(width: u32, height: u32) -> u64
+    ensures { λ r. ⌜ r ≡ width * height ⌝ }
+{
+    (width as u64) * (height as u64)
+}
+
+// What is listed of a text.
+fn list_text(text: &[u8], name: &mut [u8], cells: &mut [u8]) -> ListAnswer
+    ensures { λ r. ⌜ Answered (now (text .entry)) (now (name .entry)) (now (cells .entry)) (now (name .exit)) (now (cells .exit)) r ⌝ }
+{
+    if text.len() > 65536 {
+        return ListAnswer::Unplaced(41);
+    }
+    let read = read_xbm_header(text, name);
+    let header = read.header;
+    match header {
+        HeaderRead::Read(d, _) => {
+            let n = cell_count(d.width, d.height);
+            if n > 65536 {
+                return ListAnswer::Unplaced(42);
+            }
+            list_part(text, name, cells, n as usize)
+        }
+        HeaderRead::Refused(e) => refusal(e),
+    }
+}
+
+// A word and a number.
+fn put_field(out: &mut [u8], at: usize, word: &[u8], n: u64) -> usize
+    ensures { λ r. ⌜ output (now (out .exit)) r ≡ puts (fieldText (now (word .entry)) n) (output (now (out .entry)) at) ⌝ }
+{
+    let a = put_bytes(out, at, word);
+    put_decimal(out, a, n)
+}
+
+// A place, as a refusal tells it.
+fn put_place(out: &mut [u8], at: usize, place: TextLocation) -> usize
+    ensures { λ r. ⌜ output (now (out .exit)) r ≡ puts (placeText place) (output (now (out .entry)) at) ⌝ }
+{
+    let byte = place.byte.0;
+    let line = place.line.0;
+    let column = place.column.0;
+    let a = put_field(out, at, b" byte=", byte);
+    let b = put_field(out, a, b",line=", line);
+    put_field(out, b, b":col=", column)
+}
+
+// Two numbers, a space between.
+fn put_pair(out: &mut [u8], at: usize, x: i32, y: i32) -> usize
+    ensures { λ r. ⌜ output (now (out .exit)) r ≡ puts (pairText x y) (output (now (out .entry)) at) ⌝ }
+{
+    let a = put_signed(out, at, x);
+    let b = put_bytes(out, a, b" ");
+    put_signed(out, b, y)
+}
+
+// A hotspot; an absent one as -1 -1.
+fn put_hotspot(out: &mut [u8], at: usize, hotspot: Hotspot) -> usize
+    ensures { λ r. ⌜ output (now (out .exit)) r ≡ puts (hotText (hotOf hotspot)) (output (now (out .entry)) at) ⌝ }
+{
+    match hotspot {
+        Hotspot::Absent => put_bytes(out, at, b"-1 -1"),
+        Hotspot::At(x, y) => put_pair(out, at, x, y),
+    }
+}
+
+// The lines of the sides, the last without its end.
+fn put_sides(out: &mut [u8], width: u32, height: u32) -> usize
+    ensures { λ r. ⌜ output (now (out .exit)) r ≡ puts (sidesText width height) (output (now (out .entry)) 0) ⌝ }
+{
+    let a = put_field(out, 0, b"width ", width as u64);
+    put_field(out, a, b"\nheight ", height as u64)
+}
+
+// The hotspot's line, without its end.
+fn put_hotspot_line(out: &mut [u8], at: usize, hotspot: Hotspot) -> usize
+    ensures { λ r. ⌜ output (now (out .exit)) r ≡ puts (hotspotText (hotOf hotspot)) (output (now (out .entry)) at) ⌝ }
+{
+    let a = put_bytes(out, at, b"\nhotspot ");
+    put_hotspot(out, a, hotspot)
+}
+
+// The line of the ink.
+fn put_ink(out: &mut [u8], at: usize, ink: u64) -> usize
+    ensures { λ r. ⌜ output (now (out .exit)) r ≡ puts (inkText ink) (output (now (out .entry)) at) ⌝ }
+{
+    let a = put_field(out, at, b"\nink ", ink);
+    put_bytes(out, a, b"\n")
+}
+
+// The four lines of an accepted mask.
+fn put_accepted(out: &mut [u8], header: XbmHeaderData, ink: u64) -> usize
+    ensures { λ r. ⌜ output (now (out .exit)) r ≡ puts (acceptedText (headOf [] header) ink) (output (now (out .entry)) 0) ⌝ }
+{
+    let hotspot = header.hotspot;
+    let a = put_sides(out, header.width, header.height);
+    let b = put_hotspot_line(out, a, hotspot);
+    put_ink(out, b, ink)
+}
+
+// A refusal with its place.
+fn put_refused(out: &mut [u8], n: u8, place: TextLocation) -> usize
+    ensures { λ r. ⌜ output (now (out .exit)) r ≡ puts (printed (refused n place) 0) (output (now (out .entry)) 0) ⌝ }
+{
+    let a = put_field(out, 0, b"refused ", n as u64);
+    let b = put_place(out, a, place);
+    put_bytes(out, b, b"\n")
+}
+
+// A refusal that tells no place.
+fn put_unplaced(out: &mut [u8], n: u8) -> usize
+    ensures { λ r. ⌜ output (now (out .exit)) r ≡ puts (printed (unplaced n) 0) (output (now (out .entry)) 0) ⌝ }
+{
+    let a = put_field(out, 0, b"refused ", n as u64);
+    put_bytes(out, a, b"\n")
+}
+
+// The printed text of an answer.
+fn put_answer(out: &mut [u8], answer: ListAnswer) -> usize
+    ensures { λ r. ⌜ output (now (out .exit)) r ≡ puts (answerText answer) (output (now (out .entry)) 0) ⌝ }
+{
+    match answer {
+        ListAnswer::Accepted(d, k) => put_accepted(out, d, k),
+        ListAnswer::Refused(n, p) => put_refused(out, n, p),
+        ListAnswer::Unplaced(n) => put_unplaced(out, n),
+    }
+}
+
+// Lists a text: what is printed goes to the start of `out`, and the answer is its length.
+pub fn list(text: &[u8], name: &mut [u8], cells: &mut [u8], out: &mut [u8]) -> usize
+    ensures { λ r. ⌜ Lists (now (text .entry)) (now (name .entry)) (now (cells .entry)) (now (out .entry)) (now (name .exit)) (now (cells .exit)) (now (out .exit)) r ⌝ }
+{
+    let answer = list_text(text, name, cells);
+    put_answer(out, answer)
+}
