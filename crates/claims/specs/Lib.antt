@@ -1,0 +1,15 @@
+pub mod Terms
+pub mod Numbers
+pub mod Logs
+pub mod Painted
+pub mod Semicolon
+pub mod Symbol
+pub mod Parts
+pub mod Accepts
+pub mod Came
+pub mod Cuts
+pub mod Mismatch
+pub mod Headless
+pub mod AllCells
+pub mod Claims
+pub mod Vacuous
