@@ -18,6 +18,7 @@ use Rattle.text_reader.proofs.next_at.Tie as tie
 abbrev moved : TextLocation → Peeked → Moved
 moved q a = record { location = q; answer = a }
 
+-- what a step of the code says, from what `take` ensures and what the match tells
 module _ (s : List ℕ) (p : TextLocation) {r : Took} (e : r ≡ tookAt s p) where
   moved-next : {b : ℕ} {q : TextLocation} → r ≡ Next b q → moved q (Found b) ≡ movedAt s p
   moved-next m = rw (next-rest s p e m, ← next-after s p e m)
@@ -25,23 +26,18 @@ module _ (s : List ℕ) (p : TextLocation) {r : Took} (e : r ≡ tookAt s p) whe
   moved-end : r ≡ End → moved p Nothing ≡ movedAt s p
   moved-end m = rw (end-rest s p e m)
 
--- src/lib.rt:21:11
 take-requires : tie.Need-take-requires
 take-requires c κs = search needs
 
--- src/lib.rt:22:20
 enum-known-b : tie.Need-enum-known-b
 enum-known-b c = search needs
 
--- src/lib.rt:28:21
 enum-told : tie.Need-enum-told
 enum-told c = search needs
 
--- src/lib.rt:18:1
 returns : tie.Need-returns
 returns c = search (moved-next, needs)
 
--- src/lib.rt:18:1
 returns-2 : tie.Need-returns-2
 returns-2 c = search (moved-end, needs)
 
