@@ -68,5 +68,9 @@ toldNext Done = accepted none
 toldNext (Refused part p) = refused (number part) p
 toldNext Foreign = unplaced 9
 
+-- an answer, with the decoder after it
+abbrev pub toldCall : NextByte → XbmStreamDecoder → Step
+toldCall a d = record { answer = toldNext a; decoder = d }
+
 abbrev pub toldStep : Stepped → Step
-toldStep r = record { answer = toldNext (r .answer); decoder = r .decoder }
+toldStep r = toldCall (r .answer) (r .decoder)

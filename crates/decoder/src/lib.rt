@@ -4,7 +4,7 @@ ghost use Prim.Native.Nat.{_+_};
 ghost use Rattle.text.specs.Reader.{ok};
 ghost use Rattle.lexical.specs.Lexical.{told, toldByte, onto, skip, isLoose};
 ghost use Rattle.decoder.specs.Data.{item, brace, closing, tail, trailer};
-ghost use Rattle.decoder.specs.Step.{bytesOf, foreign, placedAt, toldStep, stepOf};
+ghost use Rattle.decoder.specs.Step.{bytesOf, foreign, placedAt, toldCall, toldStep, stepOf};
 ghost use Rattle.decoder.specs.Code.{separator, ended};
 use lexical::ByteRead;
 use lexical::Passed;
@@ -222,4 +222,13 @@ fn placed(d: XbmStreamDecoder, position: u64, location: TextLocation) -> XbmStre
         current_position: position,
         location: location,
     }
+}
+
+// Read the next byte of the raw image data; the decoder that is lent goes on. One call by value, and its decoder stored.
+pub fn next_byte(text: &[u8], decoder: &mut XbmStreamDecoder) -> NextByte
+    ensures { λ r. ⌜ toldCall r (now (decoder .exit)) ≡ stepOf (now (text .entry)) (now (decoder .entry)) ⌝ }
+{
+    let s = step(text, *decoder);
+    *decoder = s.decoder;
+    s.answer
 }

@@ -1,0 +1,3 @@
+pub mod TextReader
+pub mod Foreign
+pub mod Examples
