@@ -13,3 +13,6 @@ pub mod Headless
 pub mod AllCells
 pub mod Claims
 pub mod Vacuous
+pub mod Listings
+pub mod Masks
+pub mod Program

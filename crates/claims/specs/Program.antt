@@ -1,0 +1,56 @@
+-- THE CLAIMS ON THE PROGRAM: what it prints for document 01's masks, and of every accepted text and its cuts. To believe them, read Listing
+-- (what is printed of a text, with the limits) beside what Claims names, and this file. Every proof below is a citation or a computation.
+use mathlib.Core.Path.{_≡_, refl, ap, _∙_, sym}
+use Prim.Native.Nat.{ℕ, _≤_, _<_}
+use mathlib.Core.List.{List, [], map}
+use lib.ListN.{length, take}
+use Rattle.text.specs.declared.TextLocation.{TextLocation}
+use Rattle.text.specs.Place.{byteOf, start, past, after, rest}
+use Rattle.text.specs.Reader.{_>>=_}
+use Rattle.text.specs.Leaf.{give, want, need, one, run, fork, eot}
+use Rattle.text.specs.Outcome.{refused}
+use Rattle.lexical.specs.Lexical.{isBlank, isLoose, byte, skip, fixed, gap, lineEnd, leading}
+use Rattle.lexical.specs.Token.{token, span}
+use Rattle.lexical.specs.Hex.{hexOf, hexv, hexDigit, isMark, hexStart, hexDigits, hexUnit}
+use Rattle.integer.specs.Decimal.{isDigit, digitsFrom}
+use Rattle.header.specs.Header.{endsWith, before, positive, widthLine, element, arrayLine, rest as restOf, opening, header}
+use Rattle.header.specs.Answer.{stored}
+use Rattle.decoder.specs.Data.{item, items, brace, closing, tail, trailer, logOf}
+use Rattle.image.specs.Cells.{cell, painted}
+use Rattle.image.specs.Rows.{whole}
+use Rattle.image.specs.Reading.{picture, reading}
+use Rattle.print.specs.Decimal.{digits}
+use Rattle.print.specs.Output.{joined}
+use Rattle.listing.specs.Listing.{textLimit, cellLimit, cellsOf, inkOf, acceptedText, printed, afterHeader, listed, listing}
+use Rattle.grammar.specs.Grammar.{Mask, Format}
+use Rattle.claims.specs.Terms.{headOf, Last}
+use Rattle.claims.specs.Listings
+use Rattle.claims.specs.Masks.{table, given, wanted}
+
+-- 1. MASKS. Each of document 01's masks, as a row of the table: what is printed, the name buffer and the cells, by computing.
+pub masks : map given table ≡ map wanted table
+unfolding after rest _>>=_ give want need one run fork eot isBlank isLoose byte skip fixed gap lineEnd leading token span hexOf hexv hexDigit isMark hexStart hexDigits hexUnit isDigit digitsFrom restOf endsWith before positive widthLine element arrayLine opening header stored item items brace closing tail trailer logOf cell painted whole picture reading digits joined afterHeader listed
+masks = refl
+
+-- 2. LISTINGS. A text that writes m, that the limits let through, with cells enough for the picture; and its first n bytes.
+pub record Shown (text name cells : List ℕ) (m : Mask) (n : ℕ) : Type 0 where
+  -- the whole prints its four lines, the ink being the count of 0 cells of the picture
+  pub lines : listing text name cells ≡ acceptedText (headOf m) (inkOf (reading text name (take (cellsOf (headOf m)) cells) .pixels))
+  -- the closing semicolon
+  pub semicolon : ℕ
+  pub last : Last 59 text semicolon
+  -- without it the first n bytes print a refusal by a Parse, at byte n
+  pub early : n ≤ semicolon
+      → (number : ℕ) × (place : TextLocation) × (listing (take n text) name cells ≡ printed (refused number place) 0) × (1 ≤ number) × (number ≤ 7) × (byteOf place ≡ n) × (place ≡ past start (take n text))
+  -- with it they print what the whole prints
+  pub late : semicolon < n → listing (take n text) name cells ≡ listing text name cells
+
+pub lists : (text name cells : List ℕ) (m : Mask) (n : ℕ) → Format (length name) m text → length text ≤ textLimit → cellsOf (headOf m) ≤ cellLimit → cellsOf (headOf m) ≤ length cells → n ≤ length text
+    → Shown text name cells m n
+lists t name cells m n f short small room h = record {
+  lines = Listings.whole-lines t name cells m f short small room;
+  semicolon = Listings.semicolon t name cells m f short small;
+  last = Listings.last-one t name cells m f short small;
+  early = Listings.early t name cells m f short small room n h;
+  late = Listings.late t name cells m f short small room n h;
+}
