@@ -1,0 +1,150 @@
+-- The answers of header and image, told as numbers: one law for each way through.
+use mathlib.Core.Path.{_≡_, refl, sym, ap, _∙_}
+use Prim.Native.Nat.{ℕ, _+_, _≤_, min}
+use native.Mathlib.Omega.{arith}
+use mathlib.Core.List.{List, [], _∷_}
+use lib.ListN.{length, take, length-take}
+use lib.IntN.{ℤ, pos}
+use mir.Syntax.{w32}
+use mir.Val.{Fits}
+use Rattle.text.specs.declared.TextLocation.{TextLocation}
+use Rattle.text.specs.Place.{start}
+use Rattle.text.specs.Reader.{Result, Told, shown}
+use Rattle.text.specs.Outcome.{Outcome}
+use Rattle.lexical.specs.declared.XbmPart.{XbmPart}
+use Rattle.lexical.specs.declared.XbmPart.the-variants.{Width, Height, HotspotX, HotspotY, Array, Data, ArrayEnd, Trailing}
+use Rattle.lexical.specs.Lexical.{number}
+use Rattle.header.specs.declared.XbmDecodeError.{XbmDecodeError}
+use Rattle.header.specs.declared.XbmDecodeError.the-variants.{Parse, DecodeInteger, ZeroWidth, ZeroHeight}
+use Rattle.header.specs.declared.Hotspot.{Hotspot}
+use Rattle.header.specs.declared.Hotspot.the-variants.{Absent, At}
+use Rattle.header.specs.declared.XbmHeaderData.{XbmHeaderData}
+use Rattle.header.specs.declared.HeaderRead.{HeaderRead}
+use Rattle.header.specs.declared.HeaderRead.the-variants.{Read as HeadRead, Refused as HeadRefused}
+use Rattle.header.specs.declared.HeaderAnswer.{HeaderAnswer}
+use Rattle.header.specs.Header.{Head, header}
+use Rattle.header.specs.Answer.{toldError, hotOf, toldHeader, nameLength, Headed}
+use Rattle.image.specs.declared.ImageRead.{ImageRead}
+use Rattle.image.specs.declared.ImageRead.the-variants.{Read, Refused, DimensionMismatch}
+use Rattle.image.specs.declared.ImageAnswer.{ImageAnswer}
+use Rattle.image.specs.Reading.{Reading, reading, toldRefusal, toldImage, Imaged}
+use Rattle.xbm_c.specs.declared.Summary.{Summary}
+use Rattle.xbm_c.specs.Report.{nowhere, spotOf, refusal, ofHeader, ofImage, headerTold, imageTold, flagOf, coordinates, reportOf, Tells, HeaderCall, ImageCall}
+
+-- ---- a refusal
+
+number-small : (part : XbmPart) → number part ≤ 8
+number-small Width = omega arith
+number-small Height = omega arith
+number-small HotspotX = omega arith
+number-small HotspotY = omega arith
+number-small Array = omega arith
+number-small Data = omega arith
+number-small ArrayEnd = omega arith
+number-small Trailing = omega arith
+
+pub number-fits : (part : XbmPart) {n : ℕ} → n ≡ number part → Fits w32 (n + 10)
+number-fits part e = record { fits = omega (arith, number-small part) }
+
+module _ {e : XbmDecodeError} {r : Summary} {m : ℕ} where
+  pub error-parse : {part : XbmPart} {p : TextLocation} {n : ℕ} → e ≡ Parse part p → n ≡ number part → r ≡ refusal n p m → r ≡ ofHeader (toldError e) m
+  error-parse h k q = q ∙ rw (h, k)
+
+  pub error-integer : {part : XbmPart} {p : TextLocation} {n : ℕ} → e ≡ DecodeInteger part → n ≡ number part → p ≡ nowhere → r ≡ refusal (n + 10) p m → r ≡ ofHeader (toldError e) m
+  error-integer h k w q = q ∙ rw (h, k, w)
+
+  pub error-width : {p : TextLocation} → e ≡ ZeroWidth → p ≡ nowhere → r ≡ refusal 21 p m → r ≡ ofHeader (toldError e) m
+  error-width h w q = q ∙ rw (h, w)
+
+  pub error-height : {p : TextLocation} → e ≡ ZeroHeight → p ≡ nowhere → r ≡ refusal 22 p m → r ≡ ofHeader (toldError e) m
+  error-height h w q = q ∙ rw (h, w)
+
+pub ruleset error·laws = (number-fits, error-parse, error-integer, error-width, error-height)
+
+-- ---- an answer
+
+-- the code's hotspot, there and back
+spot-same : (h : Hotspot) → spotOf (hotOf h) ≡ h
+spot-same Absent = refl
+spot-same (At x y) = refl
+
+abbrev made : TextLocation → XbmHeaderData → ℕ → Hotspot → Summary
+made p d n h = record { number = 0; place = p; width = d .width; height = d .height; name = n; hotspot = h }
+
+module _ (h : HeaderRead) (n : ℕ) where
+  pub header-accepted : {d : XbmHeaderData} {p : TextLocation} → h ≡ HeadRead d p → made p d n (d .hotspot) ≡ ofHeader (toldHeader [] h) n
+  header-accepted {d} {p} e = rw e (ap (made p d n) (sym (spot-same (d .hotspot))))
+
+  pub header-refused : {x : XbmDecodeError} {r : Summary} → h ≡ HeadRefused x → r ≡ ofHeader (toldError x) n → r ≡ ofHeader (toldHeader [] h) n
+  header-refused e q = rw e q
+
+module _ (m : ImageRead) (n : ℕ) where
+  pub image-accepted : {d : XbmHeaderData} {p : TextLocation} → m ≡ Read d → p ≡ nowhere → made p d n (d .hotspot) ≡ ofImage (toldImage [] m) n
+  image-accepted {d} e w = rw (e, w) (ap (made nowhere d n) (sym (spot-same (d .hotspot))))
+
+  pub image-refused : {x : XbmDecodeError} {r : Summary} → m ≡ Refused x → r ≡ ofHeader (toldError x) n → r ≡ ofImage (toldImage [] m) n
+  image-refused {x} e q = rw e (q ∙ go x)
+    where
+      go : (x : XbmDecodeError) → ofHeader (toldError x) n ≡ ofImage (toldRefusal x) n
+      go (Parse part p) = refl
+      go (DecodeInteger part) = refl
+      go ZeroWidth = refl
+      go ZeroHeight = refl
+
+  pub image-mismatch : {p : TextLocation} {r : Summary} → m ≡ DimensionMismatch → p ≡ nowhere → r ≡ refusal 31 p n → r ≡ ofImage (toldImage [] m) n
+  image-mismatch e w q = q ∙ rw (e, w)
+
+pub ruleset answer·laws = (header-accepted, header-refused, image-accepted, image-refused, image-mismatch)
+
+-- ---- numbers written
+
+module _ {h : Hotspot} where
+  pub spot-absent : h ≡ Absent → pos 0 ∷ pos 0 ∷ [] ≡ coordinates h
+  spot-absent e = rw e
+
+  pub spot-at : {x y : ℤ} → h ≡ At x y → x ∷ y ∷ [] ≡ coordinates h
+  spot-at e = rw e
+
+pub report-is : (s : Summary) {f : ℕ} → f ≡ flagOf (s .hotspot)
+    → s .place .byte .0 ∷ s .place .line .0 ∷ s .place .column .0 ∷ s .width ∷ s .height ∷ s .name ∷ f ∷ 0 ∷ [] ≡ reportOf s
+report-is s e = rw e
+
+pub ruleset written·laws = (spot-absent, spot-at, report-is)
+
+-- ---- the calls
+
+-- what is told does not depend on the name's bytes
+header-blind : (w : List ℕ) (h : HeaderRead) (n : ℕ) → ofHeader (toldHeader [] h) n ≡ ofHeader (toldHeader w h) n
+header-blind w (HeadRead d p) n = refl
+header-blind w (HeadRefused x) n = refl
+
+image-blind : (w : List ℕ) (h : ImageRead) (n : ℕ) → ofImage (toldImage [] h) n ≡ ofImage (toldImage w h) n
+image-blind w (Read d) n = refl
+image-blind w (Refused x) n = refl
+image-blind w DimensionMismatch n = refl
+
+tells : {s z : Summary} {report : List ℕ} {hotspot : List ℤ} → s ≡ z → report ≡ reportOf s → hotspot ≡ coordinates (s .hotspot) → Tells z report hotspot (s .number)
+tells {s} {z} e p q = record { number = ap (λ (x : Summary). x .number) e; report = p ∙ ap reportOf e; hotspot = q ∙ ap (λ (x : Summary). coordinates (x .hotspot)) e }
+
+pub header-call : {text name name′ report : List ℕ} {hotspot : List ℤ} {a : HeaderAnswer} {s : Summary}
+    → Headed text name name′ a → s ≡ ofHeader (toldHeader [] (a .header)) (a .name) → report ≡ reportOf s → hotspot ≡ coordinates (s .hotspot) → HeaderCall text name name′ report hotspot (s .number)
+unfolding headerTold
+header-call {text} {name} {name′} {report} {hotspot} {a} {s} k e p q =
+    record {
+      told = tells (e ∙ header-blind (take (a .name) name′) (a .header) (a .name) ∙ ap (λ (t : Told Head). ofHeader t (a .name)) (k .answer) ∙ ap (ofHeader (shown (header (length name) text start))) (k .size)) p q;
+      symbol = k .symbol;
+    }
+
+pub image-call : {text name pixels name′ pixels′ report : List ℕ} {hotspot : List ℤ} {a : ImageAnswer} {s : Summary}
+    → Imaged text name pixels name′ pixels′ a → s ≡ ofImage (toldImage [] (a .image)) (a .name) → report ≡ reportOf s → hotspot ≡ coordinates (s .hotspot)
+    → ImageCall text name pixels name′ pixels′ report hotspot (s .number)
+unfolding imageTold
+image-call {text} {name} {pixels} {name′} {pixels′} {report} {hotspot} {a} {s} k e p q =
+    let size : a .name ≡ length (take (a .name) name′) = omega (arith, length-take (a .name) name′, k .fits) in
+    record {
+      told = tells (e ∙ image-blind (take (a .name) name′) (a .image) (a .name) ∙ ap (ofImage (toldImage (take (a .name) name′) (a .image))) size ∙ ap (λ (z : Reading). ofImage (z .answer) (length (z .name))) (k .all)) p q;
+      symbol = ap (λ (z : Reading). z .symbol) (k .all);
+      cells = ap (λ (z : Reading). z .pixels) (k .all);
+    }
+
+pub ruleset call·laws = (header-call, image-call)

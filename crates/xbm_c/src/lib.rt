@@ -1,0 +1,194 @@
+// The C calls that read a header and a picture (include/xbm.h): the answers of the proved readers, written as numbers.
+ghost use mathlib.Core.Path.{_≡_};
+ghost use mathlib.Core.List.{[]};
+ghost use Rattle.lexical.specs.Lexical.{number};
+ghost use Rattle.header.specs.Answer.{toldError, toldHeader};
+ghost use Rattle.image.specs.Reading.{toldImage};
+ghost use Rattle.xbm_c.specs.Report.{nowhere, refusal, ofHeader, ofImage, flagOf, coordinates, reportOf, HeaderCall, ImageCall};
+use header::HeaderAnswer;
+use header::HeaderRead;
+use header::Hotspot;
+use header::XbmDecodeError;
+use header::read_xbm_header;
+use image::ImageAnswer;
+use image::ImageRead;
+use image::read_image;
+use lexical::XbmPart;
+use text::Byte;
+use text::Column;
+use text::Line;
+use text::TextLocation;
+
+// What a call tells: zeros and no hotspot where it tells nothing; `name` is the name's length.
+pub struct Summary {
+    pub number: u32,
+    pub place: TextLocation,
+    pub width: u32,
+    pub height: u32,
+    pub name: usize,
+    pub hotspot: Hotspot,
+}
+
+fn no_place() -> TextLocation
+    ensures { λ r. ⌜ r ≡ nowhere ⌝ }
+{
+    TextLocation {
+        byte: Byte(0),
+        line: Line(0),
+        column: Column(0),
+    }
+}
+
+fn part_number(part: XbmPart) -> u32
+    ensures { λ r. ⌜ r ≡ number part ⌝ }
+{
+    match part {
+        XbmPart::Width => 1,
+        XbmPart::Height => 2,
+        XbmPart::HotspotX => 3,
+        XbmPart::HotspotY => 4,
+        XbmPart::Array => 5,
+        XbmPart::Data => 6,
+        XbmPart::ArrayEnd => 7,
+        XbmPart::Trailing => 8,
+    }
+}
+
+fn refused(number: u32, place: TextLocation, name: usize) -> Summary
+    ensures { λ r. ⌜ r ≡ refusal number place name ⌝ }
+{
+    Summary {
+        number,
+        place,
+        width: 0,
+        height: 0,
+        name,
+        hotspot: Hotspot::Absent,
+    }
+}
+
+// A refusal, and where the parser stood if it tells that.
+fn error_told(e: XbmDecodeError, name: usize) -> Summary
+    ensures { λ r. ⌜ r ≡ ofHeader (toldError e) name ⌝ }
+{
+    match e {
+        XbmDecodeError::Parse(part, place) => refused(part_number(part), place, name),
+        XbmDecodeError::DecodeInteger(part) => refused(part_number(part) + 10, no_place(), name),
+        XbmDecodeError::ZeroWidth => refused(21, no_place(), name),
+        XbmDecodeError::ZeroHeight => refused(22, no_place(), name),
+    }
+}
+
+fn header_told(read: HeaderAnswer) -> Summary
+    ensures { λ r. ⌜ r ≡ ofHeader (toldHeader [] (read .header)) (read .name) ⌝ }
+{
+    let header = read.header;
+    match header {
+        HeaderRead::Read(d, place) => {
+            let hotspot = d.hotspot;
+            Summary {
+                number: 0,
+                place,
+                width: d.width,
+                height: d.height,
+                name: read.name,
+                hotspot,
+            }
+        }
+        HeaderRead::Refused(e) => error_told(e, read.name),
+    }
+}
+
+fn image_told(read: ImageAnswer) -> Summary
+    ensures { λ r. ⌜ r ≡ ofImage (toldImage [] (read .image)) (read .name) ⌝ }
+{
+    let image = read.image;
+    match image {
+        ImageRead::Read(d) => {
+            let hotspot = d.hotspot;
+            Summary {
+                number: 0,
+                place: no_place(),
+                width: d.width,
+                height: d.height,
+                name: read.name,
+                hotspot,
+            }
+        }
+        ImageRead::Refused(e) => error_told(e, read.name),
+        ImageRead::DimensionMismatch => refused(31, no_place(), read.name),
+    }
+}
+
+fn flag(hotspot: Hotspot) -> u64
+    ensures { λ r. ⌜ r ≡ flagOf hotspot ⌝ }
+{
+    match hotspot {
+        Hotspot::Absent => 0,
+        Hotspot::At(_, _) => 1,
+    }
+}
+
+// Both coordinates of the hotspot.
+fn write_hotspot(hotspot: Hotspot, out: &mut [i32; 2])
+    ensures { λ _. ⌜ now (out .exit) ≡ coordinates hotspot ⌝ }
+{
+    match hotspot {
+        Hotspot::Absent => {
+            *out = [0, 0];
+        }
+        Hotspot::At(x, y) => {
+            *out = [x, y];
+        }
+    }
+}
+
+// All eight numbers of the report.
+fn write_report(s: Summary, out: &mut [u64; 8])
+    ensures { λ _. ⌜ now (out .exit) ≡ reportOf s ⌝ }
+{
+    let byte = s.place.byte.0;
+    let line = s.place.line.0;
+    let column = s.place.column.0;
+    let width = s.width as u64;
+    let height = s.height as u64;
+    let name = s.name as u64;
+    let hotspot = s.hotspot;
+    let spot = flag(hotspot);
+    *out = [byte, line, column, width, height, name, spot, 0];
+}
+
+// Reads the header into the lent name buffer.
+#[no_mangle]
+pub extern "C" fn xbm_read_header(
+    text: &[u8],
+    name: &mut [u8],
+    report: &mut [u64; 8],
+    hotspot: &mut [i32; 2],
+) -> u32
+    ensures { λ r. ⌜ HeaderCall (now (text .entry)) (now (name .entry)) (now (name .exit)) (now (report .exit)) (now (hotspot .exit)) r ⌝ }
+{
+    let s = header_told(read_xbm_header(text, name));
+    write_report(s, report);
+    let spot = s.hotspot;
+    write_hotspot(spot, hotspot);
+    s.number
+}
+
+// Reads the header into the lent name buffer, and then the rows of cells into the lent pixel buffer.
+#[no_mangle]
+pub extern "C" fn xbm_read_image(
+    text: &[u8],
+    name: &mut [u8],
+    pixels: &mut [u8],
+    report: &mut [u64; 8],
+    hotspot: &mut [i32; 2],
+) -> u32
+    ensures { λ r. ⌜ ImageCall (now (text .entry)) (now (name .entry)) (now (pixels .entry)) (now (name .exit)) (now (pixels .exit)) (now (report .exit)) (now (hotspot .exit)) r ⌝ }
+{
+    let s = image_told(read_image(text, name, pixels));
+    write_report(s, report);
+    let spot = s.hotspot;
+    write_hotspot(spot, hotspot);
+    s.number
+}
