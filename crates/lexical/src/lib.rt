@@ -39,6 +39,22 @@ pub enum Token {
     Refused(XbmPart, TextLocation),
 }
 
+// The number of a refusal in a part.
+pub fn part_number(part: XbmPart) -> u32
+    ensures { λ r. ⌜ r ≡ number part ⌝ }
+{
+    match part {
+        XbmPart::Width => 1,
+        XbmPart::Height => 2,
+        XbmPart::HotspotX => 3,
+        XbmPart::HotspotY => 4,
+        XbmPart::Array => 5,
+        XbmPart::Data => 6,
+        XbmPart::ArrayEnd => 7,
+        XbmPart::Trailing => 8,
+    }
+}
+
 // Space or tab.
 pub fn is_blank(b: u8) -> bool
     ensures { λ r. ⌜ r ≡ isBlank b ⌝ }

@@ -3,7 +3,7 @@ use mathlib.Core.Path.{_≡_, refl, sym, ap, _∙_}
 use Prim.Native.Nat.{ℕ, zero, suc, _+_, _-_, _*_, _^_, _≤_, _<_}
 use native.Mathlib.Omega.{arith}
 use native.Mathlib.Numerals.{add-one}
-use mir.Syntax.{w8, w32, w64}
+use mir.Syntax.{w32, w64}
 use mir.Val.{Fits, SFits, toZ, ofZ}
 use mir.ValLaws.{toZ-ofZ}
 use native.Mathlib.Nat.{mul-le-mul-right, le-of-lt}
@@ -59,7 +59,7 @@ number-small Data = omega arith
 number-small ArrayEnd = omega arith
 number-small Trailing = omega arith
 
-pub number-fits : (part : XbmPart) {n : ℕ} → n ≡ number part → Fits w8 (n + 10)
+pub number-fits : (part : XbmPart) {n : ℕ} → n ≡ number part → Fits w32 (n + 10)
 number-fits part e = record { fits = omega (arith, number-small part) }
 
 module _ {e : XbmDecodeError} where

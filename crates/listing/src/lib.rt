@@ -3,7 +3,6 @@ ghost use mathlib.Core.Path.{_≡_};
 ghost use Prim.Native.Nat.{_*_};
 ghost use mathlib.Core.List.{[]};
 ghost use Rattle.header.specs.Answer.{headOf, hotOf};
-ghost use Rattle.lexical.specs.Lexical.{number};
 ghost use Rattle.text.specs.Outcome.{refused, unplaced};
 ghost use Rattle.print.specs.Output.{output, puts};
 ghost use Rattle.listing.specs.Listing.{inkAt, inkOf, fieldText, placeText, pairText, hotText, sidesText, hotspotText, inkText, acceptedText, printed, answerText, Answered, Lists};
@@ -15,7 +14,7 @@ use header::XbmHeaderData;
 use header::read_xbm_header;
 use image::ImageRead;
 use image::read_image;
-use lexical::XbmPart;
+use lexical::part_number;
 use print::put_bytes;
 use print::put_decimal;
 use print::put_signed;
@@ -24,24 +23,8 @@ use text::TextLocation;
 // The header and the ink of an accepted mask; or a refusal's number, with its place where one is told.
 pub enum ListAnswer {
     Accepted(XbmHeaderData, u64),
-    Refused(u8, TextLocation),
-    Unplaced(u8),
-}
-
-// A part's number.
-fn part_number(part: XbmPart) -> u8
-    ensures { λ r. ⌜ r ≡ number part ⌝ }
-{
-    match part {
-        XbmPart::Width => 1,
-        XbmPart::Height => 2,
-        XbmPart::HotspotX => 3,
-        XbmPart::HotspotY => 4,
-        XbmPart::Array => 5,
-        XbmPart::Data => 6,
-        XbmPart::ArrayEnd => 7,
-        XbmPart::Trailing => 8,
-    }
+    Refused(u32, TextLocation),
+    Unplaced(u32),
 }
 
 // A refusal by its number.
@@ -204,7 +187,7 @@ fn put_accepted(out: &mut [u8], header: XbmHeaderData, ink: u64) -> usize
 }
 
 // A refusal with its place.
-fn put_refused(out: &mut [u8], n: u8, place: TextLocation) -> usize
+fn put_refused(out: &mut [u8], n: u32, place: TextLocation) -> usize
     ensures { λ r. ⌜ output (now (out .exit)) r ≡ puts (printed (refused n place) 0) (output (now (out .entry)) 0) ⌝ }
 {
     let a = put_field(out, 0, b"refused ", n as u64);
@@ -213,7 +196,7 @@ fn put_refused(out: &mut [u8], n: u8, place: TextLocation) -> usize
 }
 
 // A refusal that tells no place.
-fn put_unplaced(out: &mut [u8], n: u8) -> usize
+fn put_unplaced(out: &mut [u8], n: u32) -> usize
     ensures { λ r. ⌜ output (now (out .exit)) r ≡ puts (printed (unplaced n) 0) (output (now (out .entry)) 0) ⌝ }
 {
     let a = put_field(out, 0, b"refused ", n as u64);

@@ -4,7 +4,7 @@ use Rattle.listing.proofs.refusal.Statement.{statement}
 use Rattle.listing.proofs.refusal.Tie as tie
 use Rattle.listing.proofs.refusal.Reads as reads
 use Rattle.listing.proofs.refusal.Lts as lts
-use Rattle.listing.proofs.part_number.Reads as part-number-reads
+use Rattle.lexical.proofs.part_number.Reads as part-number-reads
 
 -- src/lib.rt:52:31
 enum-known-e : tie.Need-enum-known-e

@@ -13,7 +13,7 @@ use Rattle.lexical.specs.Hex.{hexOf, hexv, hexDigit, isMark, hexStart, hexDigit
 use Rattle.decoder.specs.declared.XbmStreamDecoder.{XbmStreamDecoder}
 use Rattle.decoder.specs.Data.{item, brace, closing, tail, trailer}
 use Rattle.decoder.specs.Step.{foreign, called, stepOf}
-use Rattle.next_byte_c.specs.Report.{reported, resultAt, decoderAt, reportAt}
+use Rattle.xbm_c.specs.Next.{reported, resultAt, decoderAt, reportAt}
 
 abbrev mask : List ℕ
 mask = ascii "#define d_width 9\n#define d_height 1\nstatic char d_bits[] = {0x01,0x00};\n"

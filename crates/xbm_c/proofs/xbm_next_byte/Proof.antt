@@ -1,4 +1,4 @@
--- `next_byte_c::xbm_next_byte` meets its contract: a walk of its MIR, by hand.
+-- `xbm_c::xbm_next_byte` meets its contract: a walk of its MIR, by hand.
 -- The decoder is lent again to `next_byte` for a lifetime of the call, comes back at its last value, and is read whole; the report is given on to `tell` at its own lifetime, share and ghost name.
 -- All that the proof knows of the two is that each meets its contract.
 use mathlib.Core.Path.{_≡_, refl, ap, _∙_}
@@ -55,15 +55,15 @@ use Rattle.decoder.proofs.next_byte as nb
 use Rattle.decoder.proofs.next_byte.Symbol as nb-def
 use Rattle.decoder.proofs.next_byte.Symbol.{name as #decoder·next-byte}
 use Rattle.decoder.proofs.next_byte.Met as nb-thm
-use Rattle.next_byte_c.specs.Report.{numberOf, reportOf}
-use Rattle.next_byte_c.proofs.tell as tell
-use Rattle.next_byte_c.proofs.tell.Symbol as tell-def
-use Rattle.next_byte_c.proofs.tell.Symbol.{name as #next_byte_c·tell}
-use Rattle.next_byte_c.proofs.tell.Met as tell-thm
-use Rattle.next_byte_c.proofs.xbm_next_byte.Key.{name as #next_byte_c·xbm-next-byte}
-use Rattle.next_byte_c.proofs.xbm_next_byte as next
-use Rattle.next_byte_c.proofs.xbm_next_byte.Statement as stated
-use Rattle.next_byte_c.proofs.xbm_next_byte.Code as code
+use Rattle.xbm_c.specs.Next.{nextNumber, nextReport}
+use Rattle.xbm_c.proofs.tell as tell
+use Rattle.xbm_c.proofs.tell.Symbol as tell-def
+use Rattle.xbm_c.proofs.tell.Symbol.{name as #xbm_c·tell}
+use Rattle.xbm_c.proofs.tell.Met as tell-thm
+use Rattle.xbm_c.proofs.xbm_next_byte.Key.{name as #xbm_c·xbm-next-byte}
+use Rattle.xbm_c.proofs.xbm_next_byte as next
+use Rattle.xbm_c.proofs.xbm_next_byte.Statement as stated
+use Rattle.xbm_c.proofs.xbm_next_byte.Code as code
 
 -- the report's type
 abbrev R : RattleType
@@ -133,7 +133,7 @@ module _ {M : Type 1} (𝓤 : URA M) (H : Heap 𝓤) (A : Atoms 𝓤) (W : Given
       qed W (‵ (S.the-row .own r (u ∷ [])) ∷ ‵ OwnX ∷ (‵ (flft κ″ q″) ⊛ ‵ ftrue) ∷ []) ∵ nothing ! $ move ! (2 ∷ 0 ∷ []) $ fjoin ! $
       owned ! T.the-row (Is T.the-row) (LL.makes T.the-type T′.the-plain 𝓤 H A) k _ is $ fjoin ! $ move ! (1 ∷ 0 ∷ []) $ fjoin ! $ move ! (1 ∷ 0 ∷ []) $ join ! $ frame ! $ done !
 
-  exits : (n : ℕ) (w : Val) (k : XbmStreamDecoder) (zs : List ℕ) → (n ≡ numberOf (found .answer)) × (k ≡ found .decoder) × (zs ≡ reportOf (found .answer) (found .decoder))
+  exits : (n : ℕ) (w : Val) (k : XbmStreamDecoder) (zs : List ℕ) → (n ≡ nextNumber (found .answer)) × (k ≡ found .decoder) × (zs ≡ nextReport (found .answer) (found .decoder))
       → ent 𝓤 (⋆ 𝓤 H A (‵ (u32 .own n (w ∷ [])) ∷ (‵ (flft κ″ q″) ⊛ ‵ ftrue) ∷ ‵ (fres γ′ (R .coded .code zs)) ∷ ‵ (fobs γ (T.the-row .coded .code k)) ∷ ‵ (fbor κ′ (Body (mem T.the-row) b o γ)) ∷ ‵ (flft κ′ q′) ∷ ‵ (flft κ q) ∷ ‵ Own ∷ [])) (Post w)
   exits n w k zs e =
       qed W (‵ (u32 .own n (w ∷ [])) ∷ (‵ (flft κ″ q″) ⊛ ‵ ftrue) ∷ ‵ (fres γ′ (R .coded .code zs)) ∷ ‵ (fobs γ (T.the-row .coded .code k)) ∷ ‵ (fbor κ′ (Body (mem T.the-row) b o γ)) ∷ ‵ (flft κ′ q′) ∷ ‵ (flft κ q) ∷ ‵ Own ∷ []) ∵
@@ -143,7 +143,7 @@ module _ {M : Type 1} (𝓤 : URA M) (H : Heap 𝓤) (A : Atoms 𝓤) (W : Given
       -- [the number; the report's last value; obs; the borrow; what the text owns]
       move ! (2 ∷ 3 ∷ []) $ feqI ! (List Val) (vptr b o ∷ []) (vptr b o ∷ []) refl $ fjoin3 ! $ nothing ! $ move ! (3 ∷ 0 ∷ []) $ fjoin ! $ move ! (1 ∷ 0 ∷ []) $ fjoin ! $ move ! (2 ∷ 0 ∷ []) $ fjoin ! $ frame ! $ done !
 
-  module _ (C : Calls 𝓤 H) (Λ : Loops 𝓤 H) (fm : FmC 𝓤 H (W .laws) C) (known-next : Triple 𝓤 (C #decoder·next-byte) (NextC 𝓤 H A at-mem run)) (known-tell : Triple 𝓤 (C #next_byte_c·tell) (TellC 𝓤 H A at-mem run)) where
+  module _ (C : Calls 𝓤 H) (Λ : Loops 𝓤 H) (fm : FmC 𝓤 H (W .laws) C) (known-next : Triple 𝓤 (C #decoder·next-byte) (NextC 𝓤 H A at-mem run)) (known-tell : Triple 𝓤 (C #xbm_c·tell) (TellC 𝓤 H A at-mem run)) where
     walk : Is (ShrSlice (named 0) κ u8) s (v ∷ []) → ent 𝓤 (onEntry 𝓤 H A next.signature (κ, (κ′, (κ″, tt))) (q, (q′, (q″, tt))) a at) (WpFn 𝓤 H C Λ code.function (v ∷ vptr b o ∷ vptr b′ o′ ∷ []) Post)
     walk g =
         qed W ((‵ (flft κ q) ⊛ ‵ (flft κ′ q′) ⊛ ‵ (flft κ″ q″) ⊛ ‵ ftrue) ∷ ‵ (owns (ShrSlice (named 0) κ u8 ∷ MutRef (named 1) κ′ T.the-row ∷ MutRef (named 2) κ″ R ∷ []) a at) ∷ []) ∵ enter ! C Λ code.function (v ∷ vptr b o ∷ vptr b′ o′ ∷ []) _ $
@@ -182,22 +182,22 @@ module _ {M : Type 1} (𝓤 : URA M) (H : Heap 𝓤) (A : Atoms 𝓤) (W : Given
         -- [what `tell` asks; obs; the borrow; [κ′]; true; [κ]; true; what the text owns; true; _7; …; _6; …; _5; …; _4; …; _3; …; _2; …; _1; …; room for _0; …]
         calls-at ! fm (TellC 𝓤 H A at-mem run) known-tell (to-tell r u (ws .1 .0)) (and-then ! (load ! (from ! (stop !)) (look ! 15 refl)) (and-then ! (load ! (from ! (stop !)) (look ! 11 refl)) (and-then ! (load ! (from ! (stop !)) (look ! 9 refl)) (no-more !)))) (λ w.
         use1 W (later (some (λ (n : ℕ). ((‵ (flft κ″ q″) ⊛ ‵ ftrue) ⊛ ‵ (u32 .own n (w ∷ []))) ⊛ raw (ensured 𝓤 H A tell.ended (tell.clauses 𝓤 H A at-mem run) (κ″, tt) (r, (ws .1 .0, (x, tt))) tt n)))) (id⊢ 𝓤 _) $ await ! tt $ pick ! (λ n.
-        split ! $ move ! (1 ∷ []) $ use1 W (some (λ (zs : Unit {0} × (Unit {0} × (List ℕ × Unit {0}))). ‵ (lasts tell.ended (κ″, tt) (r, (ws .1 .0, (x, tt))) zs) ⊛ raw (fact 𝓤 ((n ≡ numberOf (toldNext r)) × (zs .1 .1 .0 ≡ reportOf (toldNext r) (ws .1 .0)))))) (id⊢ 𝓤 _) $ pick ! (λ zs.
-        split ! $ move ! (1 ∷ []) $ heard ! ((n ≡ numberOf (toldNext r)) × (zs .1 .1 .0 ≡ reportOf (toldNext r) (ws .1 .0))) (λ e′. fsplit ! $ drop ! $ fsplit ! $ drop ! $ fsplit ! $
+        split ! $ move ! (1 ∷ []) $ use1 W (some (λ (zs : Unit {0} × (Unit {0} × (List ℕ × Unit {0}))). ‵ (lasts tell.ended (κ″, tt) (r, (ws .1 .0, (x, tt))) zs) ⊛ raw (fact 𝓤 ((n ≡ nextNumber (toldNext r)) × (zs .1 .1 .0 ≡ nextReport (toldNext r) (ws .1 .0)))))) (id⊢ 𝓤 _) $ pick ! (λ zs.
+        split ! $ move ! (1 ∷ []) $ heard ! ((n ≡ nextNumber (toldNext r)) × (zs .1 .1 .0 ≡ nextReport (toldNext r) (ws .1 .0))) (λ e′. fsplit ! $ drop ! $ fsplit ! $ drop ! $ fsplit ! $
         move ! (2 ∷ []) $ split ! $ move ! (1 ∷ []) $ peeks ! u32 (Is u32) (shows 𝓤 H A u32) n (w ∷ []) (λ is′.
         -- [the number; the report's token; its last value; true; obs; the borrow; [κ′]; true; [κ]; true; what the text owns; true; _7; …; _0; …]
         land ! (from ! (stop !)) (init ! 26 refl (uint-lawful 𝓤 H A W w32 .typed n _ is′ .0)) $
         returns ! (look ! 26 refl) $ forget ! 12 refl $ forget ! 14 refl $ forget ! 16 refl $ forget ! 18 refl $ forget ! 20 refl $ forget ! 22 refl $ forget ! 24 refl $ forget ! 26 refl $
         move ! (26 ∷ 27 ∷ []) $ free1 ! $ move ! (24 ∷ 25 ∷ []) $ free1 ! $ move ! (22 ∷ 23 ∷ []) $ free1 ! $ move ! (20 ∷ 21 ∷ []) $ free1 ! $ move ! (18 ∷ 19 ∷ []) $ free1 ! $ move ! (16 ∷ 17 ∷ []) $ free1 ! $ move ! (14 ∷ 15 ∷ []) $ free1 ! $ move ! (12 ∷ 13 ∷ []) $ free1 ! $ free0 ! $
         keep ! (0 ∷ 1 ∷ 2 ∷ 4 ∷ 5 ∷ 6 ∷ 8 ∷ 10 ∷ []) $
-        by ! (exits n w (ws .1 .0) (zs .1 .1 .0) (e′ .0 ∙ ap (λ (k : Step). numberOf (k .answer)) e, ap (λ (k : Step). k .decoder) e, e′ .1 ∙ ap (λ (k : Step). reportOf (k .answer) (k .decoder)) e))))))))))))))))))))))))
+        by ! (exits n w (ws .1 .0) (zs .1 .1 .0) (e′ .0 ∙ ap (λ (k : Step). nextNumber (k .answer)) e, ap (λ (k : Step). k .decoder) e, e′ .1 ∙ ap (λ (k : Step). nextReport (k .answer) (k .decoder)) e))))))))))))))))))))))))
 
 module _ {M : Type 1} (𝓤 : URA M) (H : Heap 𝓤) (A : Atoms 𝓤) (W : Given 𝓤 H A) (at-mem : Memory → SProp 𝓤) (run : Routine → Fun 𝓤) where
-  next-walks : (C : Calls 𝓤 H) (Λ : Loops 𝓤 H) → FmC 𝓤 H (W .laws) C → Triple 𝓤 (C #decoder·next-byte) (NextC 𝓤 H A at-mem run) → Triple 𝓤 (C #next_byte_c·tell) (TellC 𝓤 H A at-mem run) → Walks 𝓤 H A next.ended stayed (WpFn 𝓤 H C Λ code.function) (next.clauses 𝓤 H A at-mem run)
+  next-walks : (C : Calls 𝓤 H) (Λ : Loops 𝓤 H) → FmC 𝓤 H (W .laws) C → Triple 𝓤 (C #decoder·next-byte) (NextC 𝓤 H A at-mem run) → Triple 𝓤 (C #xbm_c·tell) (TellC 𝓤 H A at-mem run) → Walks 𝓤 H A next.ended stayed (WpFn 𝓤 H C Λ code.function) (next.clauses 𝓤 H A at-mem run)
   next-walks C Λ fm known-next known-tell = walked 𝓤 H A next.ended stayed (next.clauses 𝓤 H A at-mem run) (WpFn 𝓤 H C Λ code.function) (λ κs. (slice-vals, (ptr-vals, (ptr-vals, tt)))) (λ κs. (shr-slice-tells (named 0) (κs .0) u8, (mut-tells (named 1) (κs .1 .0) T.the-row, (mut-tells (named 2) (κs .1 .1 .0) R, tt))))
       (λ κs qs bounds a _ are. via 𝓤 _ (fst∗ 𝓤 _ (emp 𝓤)) (walk 𝓤 H A W at-mem run (κs .0) (κs .1 .0) (κs .1 .1 .0) (qs .0) (qs .1 .0) (qs .1 .1 .0) (a .0) (a .1 .0 .ptr .0) (a .1 .0 .ptr .1) (a .1 .0 .name) (a .1 .0 .now) (a .1 .1 .0 .ptr .0) (a .1 .1 .0 .ptr .1) (a .1 .1 .0 .name) (a .1 .1 .0 .now) C Λ fm known-next known-tell (are .0)))
 
-next-meets : {M : Type 1} (𝓤 : URA M) (H : Heap 𝓤) (A : Atoms 𝓤) → Given 𝓤 H A → (at-mem : Memory → SProp 𝓤) (run : Routine → Fun 𝓤) (𝓣 : Tables 𝓤 H) → Triple 𝓤 (𝓣 .C #decoder·next-byte) (NextC 𝓤 H A at-mem run) → Triple 𝓤 (𝓣 .C #next_byte_c·tell) (TellC 𝓤 H A at-mem run)
+next-meets : {M : Type 1} (𝓤 : URA M) (H : Heap 𝓤) (A : Atoms 𝓤) → Given 𝓤 H A → (at-mem : Memory → SProp 𝓤) (run : Routine → Fun 𝓤) (𝓣 : Tables 𝓤 H) → Triple 𝓤 (𝓣 .C #decoder·next-byte) (NextC 𝓤 H A at-mem run) → Triple 𝓤 (𝓣 .C #xbm_c·tell) (TellC 𝓤 H A at-mem run)
     → Meets 𝓤 H A next.signature (WpFn 𝓤 H (𝓣 .C) (𝓣 .Λ) code.function) (next.spec 𝓤 H A at-mem run)
 next-meets 𝓤 H A W at-mem run 𝓣 known-next known-tell = walk-meets 𝓤 H A next.ended stayed W (goes-none-slice 𝓤 H A W 3 (0 ∷ []) tt (plain (λ _. u8)) yes, (goes-ref 𝓤 H A W 3 1 tt (plain (λ _. T.the-row)), (goes-gave-ref 𝓤 H A W 3 2 tt (plain (λ _. R)), tt))) (next.clauses 𝓤 H A at-mem run)
     (WpFn 𝓤 H (𝓣 .C) (𝓣 .Λ) code.function) (WpFn-mono 𝓤 H (W .laws) 𝓣 code.function) (next-walks 𝓤 H A W at-mem run (𝓣 .C) (𝓣 .Λ) (fmOf 𝓤 H (W .laws) 𝓣) known-next known-tell)
@@ -206,7 +206,7 @@ pub xbm-next-byte-spec : {M : Type 1} → stated.statement M
 unfolding code.routine tablesOf
 xbm-next-byte-spec 𝓤 H 𝓜 𝓖 𝓡 =
     entered 𝓤 H (tripleOf 𝓤 H (𝓖 .A) next.signature (next.spec 𝓤 H (𝓖 .A) (𝓜 .mem) (𝓡 .run)))
-    (tables 𝓤 H 𝓜 𝓡 code.env .C) (tables 𝓤 H 𝓜 𝓡 code.env .Λ) #next_byte_c·xbm-next-byte code.function (code.unfolded 𝓤 H 𝓜 𝓡)
+    (tables 𝓤 H 𝓜 𝓡 code.env .C) (tables 𝓤 H 𝓜 𝓡 code.env .Λ) #xbm_c·xbm-next-byte code.function (code.unfolded 𝓤 H 𝓜 𝓡)
     (next-meets 𝓤 H (𝓖 .A) (givenOf 𝓤 H 𝓜 𝓖) (𝓜 .mem) (𝓡 .run) (tablesOf 𝓤 H 𝓜 (tables 𝓤 H 𝓜 𝓡 code.env))
     (cited 𝓤 H (NextC 𝓤 H (𝓖 .A) (𝓜 .mem) (𝓡 .run)) 𝓜 𝓡 code.env #decoder·next-byte nb-def.routine code.calls-decoder·next-byte (nb-thm.met 𝓤 H 𝓜 𝓖 𝓡))
-    (cited 𝓤 H (TellC 𝓤 H (𝓖 .A) (𝓜 .mem) (𝓡 .run)) 𝓜 𝓡 code.env #next_byte_c·tell tell-def.routine code.calls-next-byte-c·tell (tell-thm.met 𝓤 H 𝓜 𝓖 𝓡)))
+    (cited 𝓤 H (TellC 𝓤 H (𝓖 .A) (𝓜 .mem) (𝓡 .run)) 𝓜 𝓡 code.env #xbm_c·tell tell-def.routine code.calls-xbm-c·tell (tell-thm.met 𝓤 H 𝓜 𝓖 𝓡)))

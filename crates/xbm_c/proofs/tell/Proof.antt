@@ -1,4 +1,4 @@
--- `next_byte_c::tell` meets its contract: in each arm the answer is the arm's, at which the definitions compute.
+-- `xbm_c::tell` meets its contract: in each arm the answer is the arm's, at which the definitions compute.
 use Prim.Native.Nat.{ℕ}
 use mathlib.Core.Path.{_≡_, ap, _∙_}
 use mathlib.Core.List.{List}
@@ -10,31 +10,32 @@ use Rattle.decoder.specs.declared.XbmStreamDecoder.{XbmStreamDecoder}
 use Rattle.decoder.specs.declared.NextByte.{NextByte}
 use Rattle.decoder.specs.declared.NextByte.the-variants.{Byte, Done, Refused, Foreign}
 use Rattle.decoder.specs.Step.{toldNext}
-use Rattle.next_byte_c.specs.Report.{reported, nowhere, numberOf, reportOf}
-use Rattle.next_byte_c.proofs.tell.Statement.{statement}
-use Rattle.next_byte_c.proofs.tell.Tie as tie
-use Rattle.next_byte_c.proofs.tell.Reads as reads
-use Rattle.next_byte_c.proofs.tell.Lts as lts
-use Rattle.next_byte_c.proofs.no_place.Reads as no-place-reads
-use Rattle.next_byte_c.proofs.part_number.Reads as part-number-reads
-use Rattle.next_byte_c.proofs.report_of.Reads as report-of-reads
-use Rattle.next_byte_c.proofs.wide.Reads as wide-reads
+use Rattle.xbm_c.specs.Next.{reported, nextNumber, nextReport}
+use Rattle.xbm_c.specs.Report.{nowhere}
+use Rattle.xbm_c.proofs.tell.Statement.{statement}
+use Rattle.xbm_c.proofs.tell.Tie as tie
+use Rattle.xbm_c.proofs.tell.Reads as reads
+use Rattle.xbm_c.proofs.tell.Lts as lts
+use Rattle.xbm_c.proofs.no_place.Reads as no-place-reads
+use Rattle.lexical.proofs.part_number.Reads as part-number-reads
+use Rattle.xbm_c.proofs.report_of.Reads as report-of-reads
+use Rattle.xbm_c.proofs.wide.Reads as wide-reads
 
 -- the report in each arm, and the number of a refusal
 module _ (a : NextByte) (d : XbmStreamDecoder) {l : List ℕ} where
-  report-byte : {b n : ℕ} → a ≡ Byte b → n ≡ b → l ≡ reported (d .location) n → l ≡ reportOf (toldNext a) d
+  report-byte : {b n : ℕ} → a ≡ Byte b → n ≡ b → l ≡ reported (d .location) n → l ≡ nextReport (toldNext a) d
   report-byte m e k = rw (m, ← e) k
 
-  report-done : a ≡ Done → l ≡ reported (d .location) 256 → l ≡ reportOf (toldNext a) d
+  report-done : a ≡ Done → l ≡ reported (d .location) 256 → l ≡ nextReport (toldNext a) d
   report-done m k = rw m k
 
-  report-refused : {part : XbmPart} {p : TextLocation} → a ≡ Refused part p → l ≡ reported p 0 → l ≡ reportOf (toldNext a) d
+  report-refused : {part : XbmPart} {p : TextLocation} → a ≡ Refused part p → l ≡ reported p 0 → l ≡ nextReport (toldNext a) d
   report-refused m k = rw m k
 
-  report-foreign : {p : TextLocation} → a ≡ Foreign → p ≡ nowhere → l ≡ reported p 0 → l ≡ reportOf (toldNext a) d
+  report-foreign : {p : TextLocation} → a ≡ Foreign → p ≡ nowhere → l ≡ reported p 0 → l ≡ nextReport (toldNext a) d
   report-foreign m e k = rw m (k ∙ ap (λ (q : TextLocation). reported q 0) e)
 
-number-refused : {a : NextByte} {part : XbmPart} {p : TextLocation} {n : ℕ} → a ≡ Refused part p → n ≡ number part → n ≡ numberOf (toldNext a)
+number-refused : {a : NextByte} {part : XbmPart} {p : TextLocation} {n : ℕ} → a ≡ Refused part p → n ≡ number part → n ≡ nextNumber (toldNext a)
 number-refused m k = rw m k
 
 enum-known-answer : tie.Need-enum-known-answer

@@ -3,24 +3,20 @@ use Prim.Native.Nat.{ℕ}
 use mathlib.Core.List.{List, [], _∷_}
 use mathlib.Core.Option.{Option, none, some}
 use Rattle.text.specs.declared.TextLocation.{TextLocation}
-use Rattle.text.specs.Place.{placeOf}
 use Rattle.text.specs.Outcome.{Outcome, accepted, refused, unplaced}
 use Rattle.decoder.specs.declared.XbmStreamDecoder.{XbmStreamDecoder}
 use Rattle.decoder.specs.Step.{stepOf}
+use Rattle.xbm_c.specs.Report.{nowhere}
 
 -- 0 where the call is accepted, else the number of the refusal
-abbrev pub numberOf : Outcome (Option ℕ) → ℕ
-numberOf (accepted b) = 0
-numberOf (refused c p) = c
-numberOf (unplaced c) = c
+abbrev pub nextNumber : Outcome (Option ℕ) → ℕ
+nextNumber (accepted b) = 0
+nextNumber (refused c p) = c
+nextNumber (unplaced c) = c
 
 -- the place told, and the data byte
 abbrev pub reported : TextLocation → ℕ → List ℕ
 reported p b = p .byte .0 ∷ p .line .0 ∷ p .column .0 ∷ 0 ∷ 0 ∷ 0 ∷ 0 ∷ b ∷ []
-
--- where none is told
-abbrev pub nowhere : TextLocation
-nowhere = placeOf 0 0 0
 
 -- the data byte, or 256 when none is left
 abbrev pub dataOf : Option ℕ → ℕ
@@ -28,17 +24,17 @@ dataOf (some b) = b
 dataOf none = 256
 
 -- accepted: the place after the call; a refusal: its place, and no data byte
-abbrev pub reportOf : Outcome (Option ℕ) → XbmStreamDecoder → List ℕ
-reportOf (accepted b) d = reported (d .location) (dataOf b)
-reportOf (refused c p) d = reported p 0
-reportOf (unplaced c) d = reported nowhere 0
+abbrev pub nextReport : Outcome (Option ℕ) → XbmStreamDecoder → List ℕ
+nextReport (accepted b) d = reported (d .location) (dataOf b)
+nextReport (refused c p) d = reported p 0
+nextReport (unplaced c) d = reported nowhere 0
 
 -- a call on a text and the decoder lent: its result, and the later decoder and report
 abbrev pub resultAt : List ℕ → XbmStreamDecoder → ℕ
-resultAt t d = numberOf (stepOf t d .answer)
+resultAt t d = nextNumber (stepOf t d .answer)
 
 abbrev pub decoderAt : List ℕ → XbmStreamDecoder → XbmStreamDecoder
 decoderAt t d = stepOf t d .decoder
 
 abbrev pub reportAt : List ℕ → XbmStreamDecoder → List ℕ
-reportAt t d = reportOf (stepOf t d .answer) (decoderAt t d)
+reportAt t d = nextReport (stepOf t d .answer) (decoderAt t d)
