@@ -18,9 +18,10 @@ use Rattle.text.specs.Rest.{after-rest}
 use Rattle.text.specs.Reader.{Result, ok, stop, Reader, _>>=_, _>>_}
 use Rattle.text.specs.Leaf.{one, run, give}
 use Rattle.text.proofs.Laws.{rest-byte}
-use Rattle.lexical.specs.Lexical.{isLoose, isBlank, skip, byte, is, fixed, toldByte}
+use Rattle.lexical.specs.Lexical.{isLoose, isBlank, skip, byte, is, fixed, number, toldByte}
 use Rattle.lexical.specs.declared.ByteRead.{ByteRead}
-use Rattle.lexical.specs.declared.ByteRead.the-variants.{Got}
+use Rattle.lexical.specs.declared.ByteRead.the-variants.{Got, Refused as NotGot}
+use Rattle.lexical.specs.declared.XbmPart.{XbmPart}
 use Rattle.lexical.specs.Hex.{hexOf, hexv, hexDigit, hexStart, hexDigits, hexUnit, isMark}
 use Rattle.decoder.specs.Data.{item}
 use Rattle.image.specs.declared.Quick.{Quick}
@@ -32,6 +33,16 @@ miss d = record { hit = λ v q e. let z : _≡_ {A = ℕ} 0 1 = cc in absurd (om
 
 pub meets : {d : Result ℕ} {r : Quick} {v : ℕ} {q : TextLocation} → Meets r d → r ≡ Hit v q → ok v q ≡ d
 meets {v = v} {q = q} k e = k .hit v q e
+
+-- a plain answer handed on
+module _ {d : Result ℕ} {m : ByteRead} (e : toldByte m ≡ d) where
+  pub again-got : {v : ℕ} {q : TextLocation} → m ≡ Got v q → ok v q ≡ d
+  again-got h = rw h at e
+
+  pub again-refused : {part : XbmPart} {q : TextLocation} → m ≡ NotGot part q → stop (number part) q ≡ d
+  again-refused h = rw h at e
+
+pub ruleset next·laws = (meets, again-got, again-refused)
 
 -- what a reader does where the next byte is known
 module _ (t : List ℕ) (i : TextLocation) (b : ℕ) (l : List ℕ) (e : rest t i ≡ b ∷ l) where

@@ -123,7 +123,10 @@ fn next_data(text: &[u8], place: TextLocation, first: bool, table: &[u8; 256]) -
 {
     match quick_byte(text, place, first, table) {
         Quick::Hit(v, next) => ByteRead::Got(v, next),
-        Quick::Miss => read_data_byte(text, place, first),
+        Quick::Miss => match read_data_byte(text, place, first) {
+            ByteRead::Got(v, next) => ByteRead::Got(v, next),
+            ByteRead::Refused(part, p) => ByteRead::Refused(part, p),
+        },
     }
 }
 
