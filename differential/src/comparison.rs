@@ -174,7 +174,7 @@ impl<'i> Comparison<'i> {
         Ok(read.ok())
     }
 
-    /// `read_image` beside the original's two calls, with the name as `read_xbm_header` leaves it.
+    /// `read_image` beside the original's two calls.
     pub fn read_image(
         &mut self,
         text: &[u8],
@@ -182,27 +182,10 @@ impl<'i> Comparison<'i> {
         pixel_length: usize,
     ) -> Result<(), Difference> {
         self.fill(name_length, pixel_length);
-        let read = oracle::read_header(text, self.original.name.part());
-        let pixels = self.original.pixels.part();
-        let answer = if name_length == NAME_BUFFER_LENGTH {
-            oracle::read_image(text, pixels)
-        } else {
-            oracle::read_image_naming(text, &mut [0; LONGEST_NAME][..name_length], pixels)
-        };
+        let original = &mut self.original;
+        let expected = original_image(text, original.name.part(), original.pixels.part());
         let ours = &mut self.ours;
         let ours = self.interface.read_image(text, ours.name.part(), ours.pixels.part());
-        // Only a refused header takes the name back.
-        let named = read.map_or(0, |read| read.name_length);
-        let expected = match answer {
-            Ok(header) => {
-                Answer { report: header_report(&header, named), ..accepted_header(&header) }
-            }
-            Err(refusal) => {
-                let mut expected = refused(&refusal);
-                expected.report[entry::NAME_LENGTH] = named as u64;
-                expected
-            }
-        };
         self.settle(Call::ReadImage, text, expected, ours)
     }
 
@@ -334,6 +317,26 @@ fn foreign(text: &[u8], decoder: &StreamDecoder) -> bool {
 /// All data bytes of a picture.
 pub fn data_size(width: u32, height: u32) -> u128 {
     u128::from(width.div_ceil(8)) * u128::from(height)
+}
+
+/// The original's two calls, as our one call tells them. The name is as `read_xbm_header` leaves it.
+pub fn original_image(text: &[u8], name: &mut [u8], pixels: &mut [u8]) -> Answer {
+    let read = oracle::read_header(text, name);
+    let answer = if name.len() == NAME_BUFFER_LENGTH {
+        oracle::read_image(text, pixels)
+    } else {
+        oracle::read_image_naming(text, &mut [0; LONGEST_NAME][..name.len()], pixels)
+    };
+    // Only a refused header takes the name back.
+    let named = read.map_or(0, |read| read.name_length);
+    match answer {
+        Ok(header) => Answer { report: header_report(&header, named), ..accepted_header(&header) },
+        Err(refusal) => {
+            let mut expected = refused(&refusal);
+            expected.report[entry::NAME_LENGTH] = named as u64;
+            expected
+        }
+    }
 }
 
 fn accepted_header(header: &Header) -> Answer {

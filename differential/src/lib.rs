@@ -7,6 +7,8 @@ pub mod texts;
 #[cfg(has_original)]
 pub mod comparison;
 #[cfg(has_original)]
+pub mod replay;
+#[cfg(has_original)]
 pub mod trials;
 
 #[cfg(all(test, has_original))]

@@ -19,7 +19,7 @@ pub fn run(interface: &Interface, seed: u64, count: u64) -> Result<Tally, Differ
 }
 
 /// A dozen sound texts, each with a part that the others lack.
-const SOUND: [&[u8]; 13] = [
+pub const SOUND: [&[u8]; 13] = [
     b"#define d_width 9\n#define d_height 1\nstatic char d_bits[] = {0x01,0x00};\n",
     b"#define d_width 9\n#define d_height 2\n#define d_x_hot -1\n#define d_y_hot 17\n\
       static unsigned char d_bits[] = {\n   0x01, 0x00, 0xaB, 0X7f};\n",
@@ -298,28 +298,8 @@ impl Trials<'_> {
         Ok(())
     }
 
-    /// One drawn text: sound, damaged, misshapen, or no mask at all.
     fn drawn(&mut self) -> Tried {
-        let random = &mut self.random;
-        let text = match random.below(16) {
-            0..=4 => Mask::random(random).text(random),
-            5..=10 => {
-                let mut text = if random.once_in(3) {
-                    random.pick(&SOUND).to_vec()
-                } else {
-                    Mask::random(random).text(random)
-                };
-                for _ in 0..random.within(1, 3) {
-                    texts::damage(random, &mut text);
-                }
-                text
-            }
-            11..=14 => texts::misshapen(random),
-            _ => {
-                let length = random.below(40);
-                (0..length).map(|_| random.pick_byte(TELLING)).collect()
-            }
-        };
+        let text = drawn_text(&mut self.random);
         self.every_call(&text)
     }
 
@@ -426,6 +406,29 @@ impl Trials<'_> {
     }
 }
 
+/// One drawn text: sound, damaged, misshapen, or no mask at all.
+pub fn drawn_text(random: &mut Random) -> Vec<u8> {
+    match random.below(16) {
+        0..=4 => Mask::random(random).text(random),
+        5..=10 => {
+            let mut text = if random.once_in(3) {
+                random.pick(&SOUND).to_vec()
+            } else {
+                Mask::random(random).text(random)
+            };
+            for _ in 0..random.within(1, 3) {
+                texts::damage(random, &mut text);
+            }
+            text
+        }
+        11..=14 => texts::misshapen(random),
+        _ => {
+            let length = random.below(40);
+            (0..length).map(|_| random.pick_byte(TELLING)).collect()
+        }
+    }
+}
+
 /// A place in the data: after the brace, or before some comma, digit or brace of the end.
 fn byte_in_data(random: &mut Random, text: &[u8]) -> u64 {
     let brace = text.iter().position(|&b| b == b'{').map_or(0, |at| at + 1);
@@ -440,7 +443,7 @@ fn after_header(header: &Header, location: Place) -> StreamDecoder {
 }
 
 /// Telling lengths of the pixel buffer for a header; the first is exact where the picture is small.
-fn lengths(header: &Header) -> [usize; 9] {
+pub fn lengths(header: &Header) -> [usize; 9] {
     let (width, height) = (header.width as usize, header.height as usize);
     let exact = width.saturating_mul(height);
     let some = if exact <= LONGEST_BUFFER / 2 {
@@ -464,7 +467,7 @@ fn lengths(header: &Header) -> [usize; 9] {
 }
 
 /// All words of at most so many of the letters.
-fn words(letters: &[u8], longest: usize) -> Vec<Vec<u8>> {
+pub fn words(letters: &[u8], longest: usize) -> Vec<Vec<u8>> {
     let mut all = vec![Vec::new()];
     let mut last = all.clone();
     for _ in 0..longest {
@@ -483,7 +486,7 @@ fn near(number: u64) -> impl Iterator<Item = u64> {
 }
 
 /// The index of the newline that ends the line counted from 0.
-fn nth_newline(text: &[u8], line: usize) -> usize {
+pub fn nth_newline(text: &[u8], line: usize) -> usize {
     let newlines = text.iter().enumerate().filter(|(_, &b)| b == b'\n');
     newlines.map(|(at, _)| at).nth(line).expect("a header has its lines")
 }

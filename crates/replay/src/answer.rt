@@ -1,0 +1,117 @@
+// Our answer for a text, told as a record tells the original's.
+ghost use Prim.Native.Nat.{_≤_};
+ghost use lib.ListN.{length as size};
+use crate::buffers::fill;
+use crate::buffers::sum;
+use crate::record::ROOM;
+use crate::record::Told;
+use header::Hotspot;
+use header::XbmDecodeError;
+use header::XbmHeaderData;
+use image::ImageRead;
+use image::read_image;
+use lexical::XbmPart;
+use text::TextLocation;
+
+// Document 01's number of a part.
+fn part_number(part: XbmPart) -> u64
+    ensures { λ r. ⌜ r ≤ 8 ⌝ }
+{
+    match part {
+        XbmPart::Width => 1,
+        XbmPart::Height => 2,
+        XbmPart::HotspotX => 3,
+        XbmPart::HotspotY => 4,
+        XbmPart::Array => 5,
+        XbmPart::Data => 6,
+        XbmPart::ArrayEnd => 7,
+        XbmPart::Trailing => 8,
+    }
+}
+
+// A number and no more.
+fn silent(number: u64) -> Told {
+    Told {
+        number: number,
+        byte: 0,
+        line: 0,
+        column: 0,
+        width: 0,
+        height: 0,
+        name: 0,
+        hotspot: 0,
+        x: 0,
+        y: 0,
+        name_sum: 0,
+        pixel_sum: 0,
+    }
+}
+
+// A number and its place.
+fn placed(number: u64, place: TextLocation) -> Told {
+    let mut told = silent(number);
+    told.byte = place.byte.0;
+    told.line = place.line.0;
+    told.column = place.column.0;
+    told
+}
+
+fn refused(error: XbmDecodeError) -> Told {
+    match error {
+        XbmDecodeError::Parse(part, place) => placed(part_number(part), place),
+        XbmDecodeError::DecodeInteger(part) => silent(10 + part_number(part)),
+        XbmDecodeError::ZeroWidth => silent(21),
+        XbmDecodeError::ZeroHeight => silent(22),
+    }
+}
+
+// A coordinate as a record has it: with 2^31 added, so that none is negative.
+fn raised(z: i32) -> u64 {
+    ((z as i64) + 2147483648) as u64
+}
+
+fn accepted(data: XbmHeaderData) -> Told {
+    let mut told = silent(0);
+    told.width = data.width as u64;
+    told.height = data.height as u64;
+    let spot = data.hotspot;
+    match spot {
+        Hotspot::Absent => told,
+        Hotspot::At(x, y) => {
+            told.hotspot = 1;
+            told.x = raised(x);
+            told.y = raised(y);
+            told
+        }
+    }
+}
+
+fn told_by(image: ImageRead) -> Told {
+    match image {
+        ImageRead::Read(data) => accepted(data),
+        ImageRead::Refused(error) => refused(error),
+        ImageRead::DimensionMismatch => silent(31),
+    }
+}
+
+// The answer for a text, with these buffers, which are filled first.
+fn asked(text: &[u8], name: &mut [u8], pixels: &mut [u8]) -> Told {
+    fill(name);
+    fill(pixels);
+    let read = read_image(text, name, pixels);
+    let image = read.image;
+    let mut told = told_by(image);
+    told.name = read.name as u64;
+    told.name_sum = sum(name);
+    told.pixel_sum = sum(pixels);
+    told
+}
+
+// The answer for a text's first bytes, with so many cells, and a name buffer of the original's length.
+pub fn answer(text: &[u8], length: usize, cells: usize) -> Told
+    requires { ⌜ (length ≤ size (now text)) × (cells ≤ 4096) ⌝ }
+{
+    let mut name = [0u8; 256];
+    let mut pixels = [0u8; ROOM];
+    asked(&text[..length], &mut name, &mut pixels[..cells])
+}
