@@ -15,9 +15,9 @@ use Rattle.text.specs.declared.Took.the-variants.{Next, End}
 use Rattle.text.specs.Place.{pick, rest, after, tookAt}
 use Rattle.text.specs.Reader.{Result, ok, stop, Reader, _>>=_}
 use Rattle.text.specs.Leaf.{one, first, judge}
-use Rattle.text.proofs.Reading.{bind-ok, bind-stop, one-ok, one-stop, one-end, run-on, run-stay, run-lacks}
+use Rattle.text.proofs.Reading.{bind-ok, bind-stop, one-ok, one-stop, one-end}
 use Rattle.lexical.specs.declared.XbmPart.{XbmPart}
-use Rattle.lexical.specs.Lexical.{number, toldByte, starts, lead, leading}
+use Rattle.lexical.specs.Lexical.{number, toldByte}
 use Rattle.lexical.specs.declared.ByteRead.{ByteRead}
 use Rattle.lexical.specs.declared.ByteRead.the-variants.{Got, Refused}
 use Rattle.lexical.specs.Hex.{hexOf, hexv, hexDigit}
@@ -91,25 +91,3 @@ module _ (c : ℕ) (t : List ℕ) (i : TextLocation) {m : ByteRead} {v : ℕ} {q
 
   pub byte-fits : {n : ByteRead} {w : ℕ} {r : TextLocation} → toldByte n ≡ hexDigit c t q → n ≡ Got w r → Fits w8 (v * 16 + w)
   byte-fits f k = let a = digit-small c t i e h in let b = digit-small c t q f k in omega arith
-
-pub starts-fresh : (f : Bool) (b : ℕ) → f ≡ true → eqb b 35 ≡ starts f b
-starts-fresh f b h = rw h
-
-pub starts-not : (f : Bool) (b : ℕ) → f ≡ false → false ≡ starts f b
-starts-not f b h = rw h
-
--- lines before the first define line
-module _ (c : ℕ) (fresh : Bool) (t : List ℕ) (i : TextLocation) {z : Result (Unit {0})} {r : Took} (e : r ≡ tookAt t i) where
-  pub leading-again : {b : ℕ} {q : TextLocation} {w : Bool} → r ≡ Next b q → w ≡ starts fresh b → w ≡ false → leading c fresh t i ≡ z → leading c (eqb b 10) t q ≡ z
-  unfolding leading
-  leading-again m h k = run-on c lead (λ s. none) fresh t i e m (rw (← h, k))
-
-  pub leading-found : {b : ℕ} {q : TextLocation} {w : Bool} → r ≡ Next b q → w ≡ starts fresh b → w ≡ true → leading c fresh t i ≡ z → ok tt i ≡ z
-  unfolding leading
-  leading-found m h k = run-stay c lead (λ s. none) fresh t i e m (rw (← h, k))
-
-  pub leading-end : r ≡ End → leading c fresh t i ≡ z → stop c i ≡ z
-  unfolding leading
-  leading-end m = run-lacks c lead (λ s. none) fresh t i e m refl
-
-pub ruleset leading·laws = (leading-again, leading-found, leading-end)

@@ -1,3 +1,4 @@
 pub mod Laws
 pub mod Tokens
 pub mod Hex
+pub mod Lines

@@ -1,12 +1,19 @@
 // The lexical readers: each takes bytes at a place, and answers what it read and the place after it, or a refusal with its place.
 ghost use mathlib.Core.Bool.{true};
 ghost use mathlib.Core.Path.{_≡_};
+ghost use Prim.Native.Nat.{_+_};
+ghost use lib.ListN.{length, drop};
 ghost use Rattle.text.specs.Reader.{ok};
-ghost use Rattle.lexical.specs.Lexical.{isBlank, isLoose, number, told, onto, toldByte, anyByte, skip, gap, fixed, lineEnd, starts, leading};
+ghost use Rattle.lexical.specs.Lexical.{isBlank, isLoose, number, told, onto, toldByte, anyByte, skip, gap, fixed, lineEnd, lineOf, lineRest, leading};
 ghost use Rattle.lexical.specs.Token.{Tokened};
 ghost use Rattle.lexical.specs.Hex.{hexOf, isMark, hexDigit, hexStart, hexByte};
+use text::Byte;
+use text::Column;
+use text::Line;
+use text::Peeked;
 use text::TextLocation;
 use text::Took;
+use text::peek;
 use text::take;
 
 // The part of the file in which a rule is broken.
@@ -198,11 +205,53 @@ pub fn then_gap(text: &[u8], before: Passed, part: XbmPart) -> Passed
     }
 }
 
-// Whether a define line starts with this byte; `fresh`: it starts a line.
-fn starts_define(fresh: bool, b: u8) -> bool
-    ensures { λ r. ⌜ r ≡ starts fresh b ⌝ }
+// The first newline at or after `from`, or the end.
+fn line_end(text: &[u8], from: usize) -> usize
+    ensures { λ r. ⌜ r ≡ from + length (lineOf (drop from (now (text .entry)))) ⌝ }
 {
-    if fresh { b == b'#' } else { false }
+    let mut i = from;
+    while i < text.len() {
+        if text[i] == b'\n' {
+            return i;
+        }
+        i += 1;
+    }
+    i
+}
+
+// The rest of a line, with its newline.
+fn skip_line(text: &[u8], place: TextLocation, part: XbmPart) -> Passed
+    ensures { λ r. ⌜ told r ≡ lineRest (number part) (now (text .entry)) place ⌝ }
+{
+    let at = place.byte.0;
+    let line = place.line.0;
+    let column = place.column.0;
+    if at >= text.len() as u64 {
+        return Passed::Refused(part, place);
+    }
+    if at < column {
+        return Passed::Refused(part, place);
+    }
+    if at + 1 < line {
+        return Passed::Refused(part, place);
+    }
+    let i = at as usize;
+    let end = line_end(text, i);
+    if end < text.len() {
+        return Passed::To(TextLocation {
+            byte: Byte(end as u64 + 1),
+            line: Line(line + 1),
+            column: Column(0),
+        });
+    }
+    Passed::Refused(
+        part,
+        TextLocation {
+            byte: Byte(end as u64),
+            line: Line(line),
+            column: Column(column + (end - i) as u64),
+        },
+    )
 }
 
 // Skip whole lines, up to the first that begins with `#`.
@@ -210,17 +259,20 @@ pub fn skip_non_define_lines(text: &[u8], place: TextLocation, part: XbmPart) ->
     ensures { λ r. ⌜ told r ≡ leading (number part) true (now (text .entry)) place ⌝ }
 {
     let mut at = place;
-    let mut fresh = true;
     loop {
-        match take(text, at) {
-            Took::Next(b, next) => {
-                if starts_define(fresh, b) {
+        match peek(text, at) {
+            Peeked::Found(b) => {
+                if b == b'#' {
                     return Passed::To(at);
                 }
-                fresh = b == b'\n';
+            }
+            Peeked::Nothing => return Passed::Refused(part, at),
+        }
+        match skip_line(text, at, part) {
+            Passed::To(next) => {
                 at = next;
             }
-            Took::End => return Passed::Refused(part, at),
+            Passed::Refused(q, end) => return Passed::Refused(q, end),
         }
     }
 }

@@ -1,0 +1,193 @@
+-- Lines that are skipped: a line's rest at once, and the lines before the first define line.
+use Prim.Native.Nat.{ℕ, zero, suc, _+_, _-_, _^_, _<_, _≤_, min}
+use native.Mathlib.Numerals.{add-one}
+use native.Mathlib.Omega.{arith}
+use native.Mathlib.Decide.{decLt}
+use borrow.Author.Tests.{eq-eqb, ne-eqb, eqb-true, lt-ltb, le-ltb, le-leb, lt-leb}
+use mathlib.Core.Path.{_≡_, refl, sym, ap, _∙_}
+use mathlib.Core.Option.{Option, none, some}
+use mathlib.Core.List.{List, [], _∷_}
+use mathlib.Core.Bool.{Bool, true, false}
+use lib.ListN.{length, drop, getD, drop-of-length-le, length-drop}
+use lib.Seq.{drop-cons}
+use lib.Dec.{eqb, ltb}
+use Rattle.text.specs.declared.TextLocation.{TextLocation}
+use Rattle.text.specs.declared.Peeked.{Peeked}
+use Rattle.text.specs.declared.Peeked.the-variants.{Found, Nothing}
+use Rattle.text.specs.Place.{pick, rest, after, past, placeOf, byteOf, peeked, peekedAt}
+use Rattle.text.specs.Rest.{after-rest}
+use Rattle.text.specs.Reader.{Result, ok, stop, bad, then, Reader, _>>=_, _>>_}
+use Rattle.text.specs.Leaf.{one, run, scan, Move, go-on, stay, moved, judge}
+use Rattle.text.proofs.Laws.{rest-past}
+use Rattle.lexical.specs.declared.XbmPart.{XbmPart}
+use Rattle.lexical.specs.declared.Passed.{Passed}
+use Rattle.lexical.specs.declared.Passed.the-variants.{To, Refused}
+use Rattle.lexical.specs.Lexical.{number, told, when, is, byte, while, skip, lineOf, inLine, lineRest, starts, lead, leading}
+
+-- ---- where a line ends
+
+-- i is reached in the search from `from` on
+module _ (s : List ℕ) (from i : ℕ) (e : i + length (lineOf (drop i s)) ≡ from + length (lineOf (drop from s))) where
+  pub end-here : i < length s → getD s i 0 ≡ 10 → i ≡ from + length (lineOf (drop from s))
+  end-here h k = let z : length (lineOf (drop i s)) ≡ 0 = rw (drop-cons s i 0 h, eq-eqb _ _ k) in omega arith
+
+  pub end-on : i < length s → (getD s i 0 ≡ 10 → ⊥) → i + 1 + length (lineOf (drop (i + 1) s)) ≡ from + length (lineOf (drop from s))
+  end-on h k = let z : length (lineOf (drop i s)) ≡ suc (length (lineOf (drop (i + 1) s))) = rw (add-one, drop-cons s i 0 h, ne-eqb _ _ k) in omega arith
+
+  pub end-none : length s ≤ i → i ≡ from + length (lineOf (drop from s))
+  end-none h = let z : length (lineOf (drop i s)) ≡ 0 = rw (drop-of-length-le s h) in omega arith
+
+pub ruleset end·laws = (end-here, end-on, end-none)
+
+-- ---- the rest of a line, by what remains
+
+module _ (c : ℕ) (t : List ℕ) (i : TextLocation) where
+  line-empty : rest t i ≡ [] → lineRest c t i ≡ stop c i
+  unfolding lineRest skip run byte one _>>=_
+  line-empty e = rw (e, e)
+
+  line-newline : (b : ℕ) {l : List ℕ} → rest t i ≡ b ∷ l → eqb b 10 ≡ true → lineRest c t i ≡ ok tt (after b i)
+  unfolding lineRest skip run byte one inLine _>>=_
+  line-newline b e h = rw (e, h, e, h)
+
+  line-other : (b : ℕ) {l : List ℕ} → rest t i ≡ b ∷ l → eqb b 10 ≡ false → lineRest c t i ≡ lineRest c t (after b i)
+  unfolding lineRest skip run byte one inLine _>>=_
+  line-other b e h = rw (e, h, after-rest t i e)
+
+-- what reading the rest of a line gives, of what remains
+abbrev lineFrom : ℕ → TextLocation → List ℕ → Result (Unit {0})
+lineFrom c i l = pick (ltb (length (lineOf l)) (length l)) (ok tt (after 10 (past i (lineOf l)))) (stop c (past i (lineOf l)))
+
+both-more : (a b : ℕ) → ltb (suc a) (suc b) ≡ ltb a b
+both-more a b = go (decLt a b)
+  where
+    go : Dec (a < b) → ltb (suc a) (suc b) ≡ ltb a b
+    go (yes h) = rw (lt-ltb a b h) (lt-ltb (suc a) (suc b) (omega arith))
+    go (no h) = rw (le-ltb a b (omega arith)) (le-ltb (suc a) (suc b) (omega arith))
+
+line-at : (c : ℕ) (t l : List ℕ) (i : TextLocation) → rest t i ≡ l → lineRest c t i ≡ lineFrom c i l
+line-at c t [] i e = line-empty c t i e
+line-at c t (b ∷ l) i e = go (eqb b 10) refl (line-at c t l (after b i) (after-rest t i e))
+  where
+    go : (x : Bool) → eqb b 10 ≡ x → lineRest c t (after b i) ≡ lineFrom c (after b i) l → lineRest c t i ≡ lineFrom c i (b ∷ l)
+    go true h ih = line-newline c t i b e h ∙ rw (h, lt-ltb 0 (suc (length l)) (omega arith)) (ap (λ (n : ℕ). ok tt (after n i)) (eqb-true b 10 h))
+    go false h ih = line-other c t i b e h ∙ ih ∙ rw (h, both-more (length (lineOf l)) (length l))
+
+-- a line moves only byte and column
+past-line : (l : List ℕ) (i : TextLocation) → past i (lineOf l) ≡ placeOf (byteOf i + length (lineOf l)) (i .line .0) (i .column .0 + length (lineOf l))
+unfolding after
+past-line [] i = let z : byteOf i + 0 ≡ byteOf i = omega arith in let y : i .column .0 + 0 ≡ i .column .0 = omega arith in rw (z, y)
+past-line (b ∷ l) i = go (eqb b 10) refl (past-line l (after b i))
+  where
+    go : (x : Bool) → eqb b 10 ≡ x → past (after b i) (lineOf l) ≡ placeOf (byteOf (after b i) + length (lineOf l)) (after b i .line .0) (after b i .column .0 + length (lineOf l))
+        → past i (pick x [] (b ∷ lineOf l)) ≡ placeOf (byteOf i + length (pick x [] (b ∷ lineOf l))) (i .line .0) (i .column .0 + length (pick x [] (b ∷ lineOf l)))
+    go true h ih = let z : byteOf i + 0 ≡ byteOf i = omega arith in let y : i .column .0 + 0 ≡ i .column .0 = omega arith in rw (z, y)
+    go false h ih =
+        let z : byteOf i + 1 + length (lineOf l) ≡ byteOf i + suc (length (lineOf l)) = omega arith in
+        let y : i .column .0 + 1 + length (lineOf l) ≡ i .column .0 + suc (length (lineOf l)) = omega arith in
+        ih ∙ rw (h, z, y)
+
+-- ---- skipping the rest of a line at a place
+
+module _ (c : ℕ) (t : List ℕ) (p : TextLocation) where
+  pub line-past : length t ≤ p .byte .0 → stop c p ≡ lineRest c t p
+  line-past h = sym (line-at c t [] p (rest-past t p h))
+
+  pub line-column : p .byte .0 < p .column .0 → stop c p ≡ lineRest c t p
+  unfolding rest
+  line-column h = sym (line-at c t [] p (rw (lt-leb _ _ h)))
+
+  pub line-line : p .column .0 ≤ p .byte .0 → p .byte .0 + 1 < p .line .0 → stop c p ≡ lineRest c t p
+  unfolding rest
+  line-line g h = sym (line-at c t [] p (rw (le-leb _ _ g, lt-leb _ _ h)))
+
+  module _ (hc : p .column .0 ≤ p .byte .0) (hl : p .line .0 ≤ p .byte .0 + 1) {e : ℕ} (k : e ≡ p .byte .0 + length (lineOf (drop (p .byte .0) t))) where
+    sound : rest t p ≡ drop (p .byte .0) t
+    unfolding rest
+    sound = rw (le-leb _ _ hc, le-leb _ _ hl)
+
+    pub line-to : p .byte .0 < length t → e < length t → p .line .0 + 1 < 2 ^ 64 → ok tt (placeOf (e + 1) (p .line .0 + 1) 0) ≡ lineRest c t p
+    unfolding after
+    line-to hb h m =
+        let l : length (lineOf (drop (p .byte .0) t)) < length (drop (p .byte .0) t) = omega (arith, length-drop (p .byte .0) t) in
+        let z : min (p .line .0 + 1) 18446744073709551615 ≡ p .line .0 + 1 = omega arith in
+        sym (line-at c t (drop (p .byte .0) t) p sound ∙ rw (lt-ltb _ _ l, past-line (drop (p .byte .0) t) p, z, k))
+
+    pub line-out : p .byte .0 < length t → length t ≤ e → stop c (placeOf e (p .line .0) (p .column .0 + (e - p .byte .0))) ≡ lineRest c t p
+    line-out hb h =
+        let l : length (drop (p .byte .0) t) ≤ length (lineOf (drop (p .byte .0) t)) = omega (arith, length-drop (p .byte .0) t) in
+        let z : e - p .byte .0 ≡ length (lineOf (drop (p .byte .0) t)) = omega arith in
+        sym (line-at c t (drop (p .byte .0) t) p sound ∙ rw (le-ltb _ _ l, past-line (drop (p .byte .0) t) p, z, k))
+
+-- the end of a line is within the text
+line-short : (l : List ℕ) → length (lineOf l) ≤ length l
+line-short [] = omega arith
+line-short (b ∷ l) = go (eqb b 10) (line-short l)
+  where
+    go : (x : Bool) → length (lineOf l) ≤ length l → length (pick x [] (b ∷ lineOf l)) ≤ suc (length l)
+    go true h = omega arith
+    go false h = omega arith
+
+pub end-within : (t : List ℕ) (n : ℕ) {e : ℕ} → n < length t → e ≡ n + length (lineOf (drop n t)) → (e ≤ length t) × (n ≤ e)
+end-within t n h k = (omega (arith, line-short (drop n t), length-drop n t), omega arith)
+
+-- ---- lines before the first define line
+
+-- inside a line: its rest, and then lines again
+lead-line : (c : ℕ) (t l : List ℕ) (i : TextLocation) → rest t i ≡ l → leading c false t i ≡ then (lineRest c t i) (λ a e. leading c true t e)
+unfolding leading run
+lead-line c t [] i e = rw (e, line-empty c t i e)
+lead-line c t (b ∷ l) i e = go (eqb b 10) refl (lead-line c t l (after b i) (after-rest t i e))
+  where
+    go : (x : Bool) → eqb b 10 ≡ x → scan c lead (λ s. none) false (rest t (after b i)) (after b i) ≡ then (lineRest c t (after b i)) (λ a e. scan c lead (λ s. none) true (rest t e) e)
+        → scan c lead (λ s. none) false (rest t i) i ≡ then (lineRest c t i) (λ a e. scan c lead (λ s. none) true (rest t e) e)
+    go true h ih = rw (line-newline c t i b e h, e, h, after-rest t i e)
+    go false h ih = rw (line-other c t i b e h, e, h) (rw (after-rest t i e) at ih)
+
+found : (t : List ℕ) (i : TextLocation) {r : Peeked} {b : ℕ} → r ≡ peekedAt t i → r ≡ Found b → (l : List ℕ) × (rest t i ≡ b ∷ l)
+found t i {r} {b} e m = go (rest t i) refl e
+  where
+    go : (l : List ℕ) → rest t i ≡ l → r ≡ peeked l → (k : List ℕ) × (rest t i ≡ b ∷ k)
+    go [] h u = let z : _≡_ {A = ℕ} 0 1 = cc in absurd (omega arith)
+    go (x ∷ l) h u = let y : x ≡ b = cc in (l, h ∙ ap (λ (n : ℕ). n ∷ l) y)
+
+-- z is what skipping all lines gives
+module _ (c : ℕ) (t : List ℕ) (i : TextLocation) {z : Result (Unit {0})} {r : Peeked} (e : r ≡ peekedAt t i) where
+  pub lines-found : {b : ℕ} → r ≡ Found b → b ≡ 35 → leading c true t i ≡ z → ok tt i ≡ z
+  unfolding leading run
+  lines-found {b} m h k = let (l, f) = found t i e m in rw (f, eq-eqb b 35 h) at k
+
+  pub lines-none : r ≡ Nothing → leading c true t i ≡ z → stop c i ≡ z
+  unfolding leading run
+  lines-none m k = go (rest t i) e k
+    where
+      go : (l : List ℕ) → r ≡ peeked l → scan c lead (λ s. none) true l i ≡ z → stop c i ≡ z
+      go [] u k = k
+      go (x ∷ l) u k = let y : _≡_ {A = ℕ} 0 1 = cc in absurd (omega arith)
+
+  skipped : {b : ℕ} → r ≡ Found b → (b ≡ 35 → ⊥) → leading c true t i ≡ z → then (lineRest c t i) (λ a e. leading c true t e) ≡ z
+  unfolding leading run
+  skipped {b} m h k = let (l, f) = found t i e m in sym (lead-line c t (b ∷ l) i f) ∙ rw f (rw (f, ne-eqb b 35 h) at k)
+
+  module _ {b : ℕ} (m : r ≡ Found b) (h : b ≡ 35 → ⊥) {s : Passed} (g : told s ≡ lineRest c t i) (k : leading c true t i ≡ z) where
+    pub lines-on : {q : TextLocation} → s ≡ To q → leading c true t q ≡ z
+    lines-on {q} n = ap (λ (x : Result (Unit {0})). then x (λ a e. leading c true t e)) (sym (ap told n) ∙ g) ∙ skipped m h k
+
+    pub lines-end : {part : XbmPart} {q : TextLocation} → s ≡ Refused part q → stop (number part) q ≡ z
+    lines-end {part} {q} n = ap (λ (x : Result (Unit {0})). then x (λ a e. leading c true t e)) (sym (ap told n) ∙ g) ∙ skipped m h k
+
+-- a line skipped leaves fewer bytes
+line-less : (c : ℕ) (t l : List ℕ) (i q : TextLocation) → rest t i ≡ l → ok tt q ≡ lineRest c t i → length (rest t q) < length l
+line-less c t [] i q e h = let z : ok tt q ≡ stop c i = h ∙ line-empty c t i e in let y : _≡_ {A = ℕ} 0 1 = cc in absurd (omega arith)
+line-less c t (b ∷ l) i q e h = go (eqb b 10) refl (λ u. line-less c t l (after b i) q (after-rest t i e) u)
+  where
+    go : (x : Bool) → eqb b 10 ≡ x → (ok tt q ≡ lineRest c t (after b i) → length (rest t q) < length l) → length (rest t q) < suc (length l)
+    go true y ih = let z : ok tt q ≡ ok tt (after b i) = h ∙ line-newline c t i b e y in let w : q ≡ after b i = cc in rw (w, after-rest t i e) (omega arith)
+    go false y ih = let a : length (rest t q) < length l = ih (h ∙ line-other c t i b e y) in omega arith
+
+pub lines-less : (c : ℕ) (t : List ℕ) (i : TextLocation) {s : Passed} {q : TextLocation} → told s ≡ lineRest c t i → s ≡ To q → length (rest t q) < length (rest t i)
+lines-less c t i {s} {q} g n = line-less c t (rest t i) i q refl (sym (ap told n) ∙ g)
+
+pub ruleset line·laws = (line-past, line-column, line-line, line-to, line-out)
+
+pub ruleset lines·laws = (lines-found, lines-none, lines-on, lines-end, lines-less)
