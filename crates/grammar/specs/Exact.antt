@@ -11,6 +11,7 @@ use lib.Dec.{eqb, leb, ltb}
 use borrow.Author.Tests.{leb-true, le-leb, lt-leb, ltb-true, lt-ltb, eqb-true}
 use Rattle.text.specs.declared.TextLocation.{TextLocation}
 use Rattle.text.specs.Ascii.{ascii}
+use Rattle.text.specs.Yields.{yields-bind, yields-give}
 use Rattle.text.specs.Reader.{ok, _>>=_, _>>_}
 use Rattle.text.specs.Place.{pick, start, rest, past}
 use Rattle.text.specs.Leaf.{give}
@@ -26,7 +27,7 @@ use Rattle.grammar.specs.Devices.{headOf, made, body, front, text}
 use Rattle.grammar.specs.Tests.{both-true}
 use Rattle.grammar.specs.Fits.{Follow, Any, End, Off, Fits, Begins, fit-same, fit-when, fit-drop, fit-bind, fit-run, fit-then, fit-give, fit-end, fit-last, fit-done, fit-assoc}
 use Rattle.grammar.specs.Pieces.{fit, begin, begins-any, begins-end, one-fits, class-fits, fixed-fits, loose-fits, end-fits}
-use Rattle.grammar.specs.Headers.{yields-bind, yields-give, fit-never, header-fits}
+use Rattle.grammar.specs.Headers.{fit-never, header-fits}
 
 -- ---- a data byte
 

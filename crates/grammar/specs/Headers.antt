@@ -8,6 +8,7 @@ use mathlib.Core.List.{List, [], _∷_, _++_, append-assoc}
 use lib.IntN.{ℤ}
 use Rattle.text.specs.declared.TextLocation.{TextLocation}
 use Rattle.text.specs.Ascii.{ascii}
+use Rattle.text.specs.Yields.{Yields, yields-bind, yields-give}
 use Rattle.text.specs.Reader.{ok, Reader, _>>=_}
 use Rattle.text.specs.Leaf.{give}
 use Rattle.header.specs.Header.{Head, element, arrayLine, ending, hotspot, rest, widthLine, header}
@@ -18,17 +19,6 @@ use Rattle.grammar.specs.Devices.{headOf}
 use Rattle.grammar.specs.Fits.{Follow, Any, Next, At, Fits, says, Begins, fit-bind, fit-run, fit-give, fit-done, fit-drop, fit-fork}
 use Rattle.grammar.specs.Pieces.{fit, begin, begins-any, begins-next, leading-fits}
 use Rattle.grammar.specs.Lines.{width-fits, height-fits, hot-fits}
-
--- a value that is never given
-pub record Yields {A : Type 0} (q : Reader A) (G : A → Type 0) : Type 0 where
-  pub yields : (t : List ℕ) (i : TextLocation) (b : A) (e : TextLocation) → q t i ≡ ok b e → G b
-
-pub yields-bind : {A B : Type 0} (p : Reader A) {f : A → Reader B} {G : B → Type 0} → ((a : A) → Yields (f a) G) → Yields (p >>= f) G
-yields-bind p {f} h = record { yields = λ t i b e q. bind-case p f t i q (λ a m u v. h a .yields t m b e v) }
-
-pub yields-give : {A : Type 0} (a : A) {G : A → Type 0} → G a → Yields (give a) G
-unfolding give
-yields-give a {G} g = record { yields = λ t i b e q. (let z : a ≡ b = cc in rw z at g) }
 
 pub fit-never : {A : Type 0} {q : Reader A} {b : A} (G : A → Type 0) {K : Lang} {F : Follow} → Yields q G → (G b → ⊥) → Fits q b ⊥ K F
 fit-never {b = b} G y n = record { to = λ t i e q. absurd (n (y .yields t i b e q)); from = λ t i w r x d l f. absurd x }

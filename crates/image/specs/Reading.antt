@@ -8,14 +8,11 @@ use Rattle.text.specs.declared.TextLocation.{TextLocation}
 use Rattle.text.specs.Place.{start}
 use Rattle.text.specs.Reader.{Result, ok, stop, bad, Reader, _>>=_, Told}
 use Rattle.text.specs.Leaf.{give}
-use Rattle.text.specs.Outcome.{Outcome, accepted, refused, unplaced, outcome}
-use Rattle.lexical.specs.Lexical.{number}
+use Rattle.text.specs.Outcome.{Outcome, accepted, refused, unplaced, outcome, placeless}
 use Rattle.lexical.specs.Token.{overlay}
-use Rattle.header.specs.declared.XbmDecodeError.{XbmDecodeError}
-use Rattle.header.specs.declared.XbmDecodeError.the-variants.{Parse, DecodeInteger, ZeroWidth, ZeroHeight}
 use Rattle.header.specs.declared.XbmHeaderData.{XbmHeaderData}
 use Rattle.header.specs.Header.{Head, header}
-use Rattle.header.specs.Answer.{headOf, numberOf, stored, nameLength}
+use Rattle.header.specs.Answer.{headOf, toldError, stored, nameLength}
 use Rattle.decoder.specs.Data.{logOf}
 use Rattle.image.specs.Cells.{painted}
 use Rattle.image.specs.Rows.{count, whole}
@@ -60,15 +57,9 @@ reading text name pixels = record {
 
 -- ---- what the code answers
 
-abbrev pub toldRefusal : XbmDecodeError → Outcome Head
-toldRefusal (Parse part p) = refused (number part) p
-toldRefusal (DecodeInteger part) = unplaced (numberOf (DecodeInteger part))
-toldRefusal ZeroWidth = unplaced (numberOf ZeroWidth)
-toldRefusal ZeroHeight = unplaced (numberOf ZeroHeight)
-
 abbrev pub toldImage : List ℕ → ImageRead → Outcome Head
 toldImage name (Read d) = accepted (headOf name d)
-toldImage name (Refused e) = toldRefusal e
+toldImage name (Refused e) = placeless (toldError e)
 toldImage name DimensionMismatch = unplaced 31
 
 -- an answer of the code and the buffers after it, as a reading

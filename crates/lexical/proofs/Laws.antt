@@ -1,6 +1,9 @@
 -- What a step of the code says of the lexical rules.
 use Prim.Native.Nat.{ℕ, _+_, _<_, _≤_}
 use native.Mathlib.Numerals.{add-one}
+use native.Mathlib.Omega.{arith}
+use mir.Syntax.{w32}
+use mir.Val.{Fits}
 use borrow.Author.Tests.{eq-eqb, ne-eqb}
 use mathlib.Core.Path.{_≡_, refl, sym}
 use mathlib.Core.Option.{some}
@@ -17,9 +20,24 @@ use Rattle.text.specs.Leaf.{give}
 use Rattle.text.proofs.Laws.{next-less}
 use Rattle.text.proofs.Reading.{bind-ok, bind-stop, bind·laws, one-ok, one-stop, one-end, run-on, run-stay, run-end}
 use Rattle.lexical.specs.declared.XbmPart.{XbmPart}
+use Rattle.lexical.specs.declared.XbmPart.the-variants.{Width, Height, HotspotX, HotspotY, Array, Data, ArrayEnd, Trailing}
 use Rattle.lexical.specs.declared.Passed.{Passed}
 use Rattle.lexical.specs.declared.Passed.the-variants.{To, Refused}
 use Rattle.lexical.specs.Lexical.{number, told, onto, when, is, anyByte, byte, while, skip, fixed}
+
+-- a part's number, with 10 more
+number-small : (part : XbmPart) → number part ≤ 8
+number-small Width = omega arith
+number-small Height = omega arith
+number-small HotspotX = omega arith
+number-small HotspotY = omega arith
+number-small Array = omega arith
+number-small Data = omega arith
+number-small ArrayEnd = omega arith
+number-small Trailing = omega arith
+
+pub number-fits : (part : XbmPart) {n : ℕ} → n ≡ number part → Fits w32 (n + 10)
+number-fits part e = record { fits = omega (arith, number-small part) }
 
 -- an answer that is matched on, at the end of a reading and in the middle of one
 module _ {d : Result (Unit {0})} {m : Passed} (e : told m ≡ d) where

@@ -18,14 +18,15 @@ use borrow.Author.Tests.{eq-eqb, ne-eqb, lt-ltb, le-ltb}
 use Rattle.text.specs.Ascii.{ascii}
 use Rattle.text.specs.declared.TextLocation.{TextLocation}
 use Rattle.text.specs.Place.{pick, start}
-use Rattle.text.specs.Reader.{Result, ok, stop, bad, Told, accepted as told-ok, refused as told-refused, unplaced as told-none, shown}
-use Rattle.text.specs.Outcome.{Outcome, accepted, refused, unplaced}
+use Rattle.text.specs.Reader.{Result, ok, stop, bad, Told, shown}
+use Rattle.text.specs.Outcome.{Outcome, accepted, refused, unplaced, placeless}
 use Rattle.lexical.specs.declared.XbmPart.{XbmPart}
-use Rattle.lexical.specs.declared.XbmPart.the-variants.{Width, Height, HotspotX, HotspotY, Array, Data, ArrayEnd, Trailing}
 use Rattle.lexical.specs.Lexical.{number}
+use Rattle.lexical.proofs.Laws.{number-fits}
 use Rattle.lexical.specs.Token.{overlay}
 use Rattle.header.specs.declared.XbmDecodeError.{XbmDecodeError}
 use Rattle.header.specs.declared.XbmDecodeError.the-variants.{Parse, DecodeInteger, ZeroWidth, ZeroHeight}
+use Rattle.header.proofs.Told.{error-never}
 use Rattle.header.specs.declared.XbmHeaderData.{XbmHeaderData}
 use Rattle.header.specs.declared.Hotspot.{Hotspot}
 use Rattle.header.specs.declared.Hotspot.the-variants.{Absent, At}
@@ -38,7 +39,7 @@ use Rattle.image.proofs.Whole.{head-is}
 use Rattle.image.specs.declared.ImageRead.{ImageRead}
 use Rattle.image.specs.declared.ImageRead.the-variants.{Read, Refused as ImageRefused, DimensionMismatch}
 use Rattle.image.specs.declared.ImageAnswer.{ImageAnswer}
-use Rattle.image.specs.Reading.{Reading, reading, toldImage, toldRefusal, toldReading, Imaged}
+use Rattle.image.specs.Reading.{Reading, reading, toldImage, toldReading, Imaged}
 use Rattle.print.specs.Output.{Output, output, puts, joined, puts-append, puts-within}
 use Rattle.print.specs.Decimal.{signed}
 use Rattle.print.proofs.Laws.{joined·laws}
@@ -48,19 +49,6 @@ use Rattle.listing.specs.Listing.{inkAt, inkOf, pairText, hotText, place
 use Rattle.listing.specs.Code.{refusalOf, readingText, Imaging, Parted}
 
 -- ---- refusals by their numbers
-
-number-small : (part : XbmPart) → number part ≤ 8
-number-small Width = omega arith
-number-small Height = omega arith
-number-small HotspotX = omega arith
-number-small HotspotY = omega arith
-number-small Array = omega arith
-number-small Data = omega arith
-number-small ArrayEnd = omega arith
-number-small Trailing = omega arith
-
-pub number-fits : (part : XbmPart) {n : ℕ} → n ≡ number part → Fits w32 (n + 10)
-number-fits part e = record { fits = omega (arith, number-small part) }
 
 module _ {e : XbmDecodeError} where
   pub refusal-parse : (part : XbmPart) {n : ℕ} {p : TextLocation} → e ≡ Parse part p → n ≡ number part → Refused n p ≡ refusalOf e
@@ -108,7 +96,7 @@ pub ruleset counting·laws = (counting-none, counting-fits, counting-more, count
 
 -- ---- a reading, listed
 
-refusal-text : (e : XbmDecodeError) (k : ℕ) → answerText (refusalOf e) ≡ printed (toldRefusal e) k
+refusal-text : (e : XbmDecodeError) (k : ℕ) → answerText (refusalOf e) ≡ printed (placeless (toldError e)) k
 refusal-text (Parse part p) k = refl
 refusal-text (DecodeInteger part) k = refl
 refusal-text ZeroWidth k = refl
@@ -124,7 +112,7 @@ module _ (text name pixels name′ pixels′ : List ℕ) {r : ImageAnswer} (k : 
   pub imaging-refused : {x : XbmDecodeError} {a : ListAnswer} → r .image ≡ ImageRefused x → a ≡ refusalOf x → Imaging text name pixels name′ pixels′ a
   imaging-refused {x} h e = imaging _ (ap answerText e ∙ rw h (refusal-text x _ ∙ none x))
     where
-      none : (x : XbmDecodeError) → printed (toldRefusal x) 0 ≡ printed (toldRefusal x) (inkIn (toldRefusal x) pixels′)
+      none : (x : XbmDecodeError) → printed (placeless (toldError x)) 0 ≡ printed (placeless (toldError x)) (inkIn (placeless (toldError x)) pixels′)
       none (Parse part p) = refl
       none (DecodeInteger part) = refl
       none ZeroWidth = refl
@@ -219,29 +207,11 @@ module _ (text name cells : List ℕ) where
     unfolding listed
     answered r name″ cells′ x e = answered-by r name″ cells′ (afterHeader text name cells x) (rw (le-ltb textLimit (length text) h, e))
 
-    turn : Told Head → Outcome Head
-    turn (told-ok d p) = accepted d
-    turn (told-refused c p) = refused c p
-    turn (told-none c) = unplaced c
-
-    refusal-told : (e : XbmDecodeError) → answerText (refusalOf e) ≡ printed (turn (toldError e)) 0
-    unfolding turn
-    refusal-told (Parse part p) = refl
-    refusal-told (DecodeInteger part) = refl
-    refusal-told ZeroWidth = refl
-    refusal-told ZeroHeight = refl
-
-    never : {C : Type 0} (e : XbmDecodeError) {d : Head} {p : TextLocation} → toldError e ≡ told-ok d p → C
-    never (Parse part q) w = let z : _≡_ {A = ℕ} 0 1 = cc in absurd (omega arith)
-    never (DecodeInteger part) w = let z : _≡_ {A = ℕ} 0 1 = cc in absurd (omega arith)
-    never ZeroWidth w = let z : _≡_ {A = ℕ} 0 1 = cc in absurd (omega arith)
-    never ZeroHeight w = let z : _≡_ {A = ℕ} 0 1 = cc in absurd (omega arith)
-
     refused-so : (x : Result Head) → header (length name) text start ≡ x → (e : XbmDecodeError) → toldError e ≡ shown x → Answered text name cells name′ cells (refusalOf e)
-    unfolding afterHeader turn
-    refused-so (ok d p) u e w = never e w
-    refused-so (stop c p) u e w = answered (refusalOf e) name′ cells (stop c p) u (refusal-told e ∙ ap (λ (x : Told Head). printed (turn x) 0) w) (k .symbol) refl
-    refused-so (bad c p) u e w = answered (refusalOf e) name′ cells (bad c p) u (refusal-told e ∙ ap (λ (x : Told Head). printed (turn x) 0) w) (k .symbol) refl
+    unfolding afterHeader
+    refused-so (ok d p) u e w = error-never e w
+    refused-so (stop c p) u e w = answered (refusalOf e) name′ cells (stop c p) u (refusal-text e 0 ∙ ap (λ (x : Told Head). printed (placeless x) 0) w) (k .symbol) refl
+    refused-so (bad c p) u e w = answered (refusalOf e) name′ cells (bad c p) u (refusal-text e 0 ∙ ap (λ (x : Told Head). printed (placeless x) 0) w) (k .symbol) refl
 
     pub answered-refused : {e : XbmDecodeError} {r : ListAnswer} → a .header ≡ HeadRefused e → r ≡ refusalOf e → Answered text name cells name′ cells r
     answered-refused {e} {r} m g = rw g (refused-so (header (length name) text start) refl e (rw m at (k .answer)))

@@ -4,3 +4,4 @@ pub mod Rest
 pub mod Reader
 pub mod Leaf
 pub mod Outcome
+pub mod Yields

@@ -5,15 +5,13 @@ use native.Mathlib.Omega.{arith}
 use mathlib.Core.List.{List, [], _∷_}
 use lib.ListN.{length, take, length-take}
 use lib.IntN.{ℤ, pos}
-use mir.Syntax.{w32}
-use mir.Val.{Fits}
 use Rattle.text.specs.declared.TextLocation.{TextLocation}
 use Rattle.text.specs.Place.{start}
 use Rattle.text.specs.Reader.{Result, Told, shown}
-use Rattle.text.specs.Outcome.{Outcome}
+use Rattle.text.specs.Outcome.{Outcome, placeless}
 use Rattle.lexical.specs.declared.XbmPart.{XbmPart}
-use Rattle.lexical.specs.declared.XbmPart.the-variants.{Width, Height, HotspotX, HotspotY, Array, Data, ArrayEnd, Trailing}
 use Rattle.lexical.specs.Lexical.{number}
+use Rattle.lexical.proofs.Laws.{number-fits}
 use Rattle.header.specs.declared.XbmDecodeError.{XbmDecodeError}
 use Rattle.header.specs.declared.XbmDecodeError.the-variants.{Parse, DecodeInteger, ZeroWidth, ZeroHeight}
 use Rattle.header.specs.declared.Hotspot.{Hotspot}
@@ -27,24 +25,11 @@ use Rattle.header.specs.Answer.{toldError, hotOf, toldHeader, nameLength, Heade
 use Rattle.image.specs.declared.ImageRead.{ImageRead}
 use Rattle.image.specs.declared.ImageRead.the-variants.{Read, Refused, DimensionMismatch}
 use Rattle.image.specs.declared.ImageAnswer.{ImageAnswer}
-use Rattle.image.specs.Reading.{Reading, reading, toldRefusal, toldImage, Imaged}
+use Rattle.image.specs.Reading.{Reading, reading, toldImage, Imaged}
 use Rattle.xbm_c.specs.declared.Summary.{Summary}
 use Rattle.xbm_c.specs.Report.{nowhere, spotOf, refusal, ofHeader, ofImage, headerTold, imageTold, flagOf, coordinates, reportOf, Tells, HeaderCall, ImageCall}
 
 -- ---- a refusal
-
-number-small : (part : XbmPart) → number part ≤ 8
-number-small Width = omega arith
-number-small Height = omega arith
-number-small HotspotX = omega arith
-number-small HotspotY = omega arith
-number-small Array = omega arith
-number-small Data = omega arith
-number-small ArrayEnd = omega arith
-number-small Trailing = omega arith
-
-pub number-fits : (part : XbmPart) {n : ℕ} → n ≡ number part → Fits w32 (n + 10)
-number-fits part e = record { fits = omega (arith, number-small part) }
 
 module _ {e : XbmDecodeError} {r : Summary} {m : ℕ} where
   pub error-parse : {part : XbmPart} {p : TextLocation} {n : ℕ} → e ≡ Parse part p → n ≡ number part → r ≡ refusal n p m → r ≡ ofHeader (toldError e) m
@@ -85,7 +70,7 @@ module _ (m : ImageRead) (n : ℕ) where
   pub image-refused : {x : XbmDecodeError} {r : Summary} → m ≡ Refused x → r ≡ ofHeader (toldError x) n → r ≡ ofImage (toldImage [] m) n
   image-refused {x} e q = rw e (q ∙ go x)
     where
-      go : (x : XbmDecodeError) → ofHeader (toldError x) n ≡ ofImage (toldRefusal x) n
+      go : (x : XbmDecodeError) → ofHeader (toldError x) n ≡ ofImage (placeless (toldError x)) n
       go (Parse part p) = refl
       go (DecodeInteger part) = refl
       go ZeroWidth = refl
