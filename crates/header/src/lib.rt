@@ -28,6 +28,9 @@ use text::Took;
 use text::beginning;
 use text::take;
 
+// A limit on the length of a #define symbol (name and `_width`), for callers that have no other: the name buffer's length is the limit.
+pub const MAX_IDENTIFIER_LENGTH: usize = 256;
+
 // Error that can occur while parsing an XBM file.
 pub enum XbmDecodeError {
     Parse(XbmPart, TextLocation),

@@ -20,6 +20,10 @@ use print::put_decimal;
 use print::put_signed;
 use text::TextLocation;
 
+// The program's limits: bytes of a text, cells of a picture.
+pub const TEXT_LIMIT: usize = 65536;
+pub const CELL_LIMIT: u64 = 65536;
+
 // The header and the ink of an accepted mask; or a refusal's number, with its place where one is told.
 pub enum ListAnswer {
     Accepted(XbmHeaderData, u64),
@@ -96,7 +100,7 @@ fn cell_count(width: u32, height: u32) -> u64
 fn list_text(text: &[u8], name: &mut [u8], cells: &mut [u8]) -> ListAnswer
     ensures { λ r. ⌜ Answered (now (text .entry)) (now (name .entry)) (now (cells .entry)) (now (name .exit)) (now (cells .exit)) r ⌝ }
 {
-    if text.len() > 65536 {
+    if text.len() > TEXT_LIMIT {
         return ListAnswer::Unplaced(41);
     }
     let read = read_xbm_header(text, name);
@@ -104,7 +108,7 @@ fn list_text(text: &[u8], name: &mut [u8], cells: &mut [u8]) -> ListAnswer
     match header {
         HeaderRead::Read(d, _) => {
             let n = cell_count(d.width, d.height);
-            if n > 65536 {
+            if n > CELL_LIMIT {
                 return ListAnswer::Unplaced(42);
             }
             list_part(text, name, cells, n as usize)
