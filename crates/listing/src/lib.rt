@@ -22,6 +22,7 @@ use text::TextLocation;
 
 // The program's limits: bytes of a text, cells of a picture.
 pub const TEXT_LIMIT: usize = 65536;
+
 pub const CELL_LIMIT: u64 = 65536;
 
 // The header and the ink of an accepted mask; or a refusal's number, with its place where one is told.

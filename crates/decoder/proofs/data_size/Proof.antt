@@ -1,19 +1,15 @@
+-- `decoder::data_size` meets its contract: each return is a law (`size-fits`).
 use borrow.Author.Needs.{needs}
 use Rattle.decoder.proofs.Steps.{size-fits}
 use Rattle.decoder.proofs.data_size.Statement.{statement}
 use Rattle.decoder.proofs.data_size.Tie as tie
-use Rattle.decoder.proofs.data_size.Reads as reads
-use Rattle.decoder.proofs.data_size.Lts as lts
 
--- src/lib.rt:146:6
 add-result : tie.Need-add-result
 add-result c = search needs
 
--- src/lib.rt:146:5
 mul-result : tie.Need-mul-result
 mul-result c = search (size-fits, needs)
 
--- src/lib.rt:143:1
 returns : tie.Need-returns
 returns c = search needs
 

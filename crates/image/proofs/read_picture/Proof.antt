@@ -1,48 +1,36 @@
+-- `image::read_picture` meets its contract: each return is a law (`pictured·laws`).
 use borrow.Author.Needs.{needs}
 use Rattle.image.proofs.Whole.{pictured·laws}
 use Rattle.image.proofs.read_picture.Statement.{statement}
 use Rattle.image.proofs.read_picture.Tie as tie
-use Rattle.image.proofs.read_picture.Reads as reads
-use Rattle.image.proofs.read_picture.Lts as lts
-use Rattle.image.proofs.read_rows.Reads as read-rows-reads
 
--- src/lib.rt:215:11
 read-rows-requires : tie.Need-read-rows-requires
 read-rows-requires c κs = search needs
 
--- src/lib.rt:216:23
 enum-told : tie.Need-enum-told
 enum-told c = search needs
 
--- src/lib.rt:217:23
 enum-known-part : tie.Need-enum-known-part
 enum-known-part c = search needs
 
--- src/lib.rt:218:27
 enum-told-2 : tie.Need-enum-told-2
 enum-told-2 c = search needs
 
--- src/lib.rt:206:1
 same-length : tie.Need-same-length
 same-length c = search needs
 
--- src/lib.rt:206:1
 returns : tie.Need-returns
 returns c = search (pictured·laws, needs)
 
--- src/lib.rt:206:1
 same-length-2 : tie.Need-same-length-2
 same-length-2 c = search needs
 
--- src/lib.rt:206:1
 returns-2 : tie.Need-returns-2
 returns-2 c = search (pictured·laws, needs)
 
--- src/lib.rt:206:1
 same-length-3 : tie.Need-same-length-3
 same-length-3 c = search needs
 
--- src/lib.rt:206:1
 returns-3 : tie.Need-returns-3
 returns-3 c = search (pictured·laws, needs)
 

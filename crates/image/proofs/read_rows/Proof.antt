@@ -9,11 +9,6 @@ use lib.ListN.{length}
 use borrow.Author.Needs.{needs}
 use Rattle.image.proofs.read_rows.Statement.{statement}
 use Rattle.image.proofs.read_rows.Tie as tie
-use Rattle.image.proofs.read_rows.Reads as reads
-use Rattle.image.proofs.read_rows.Lts as lts
-use Rattle.decoder.proofs.read_trailer.Reads as read-trailer-reads
-use Rattle.image.proofs.next_data.Reads as next-data-reads
-use Rattle.image.proofs.unpack.Reads as unpack-reads
 
 abbrev Inv-loop : tie.InvT-loop
 Inv-loop text width height pixels₀ w h rows table at₀ first₀ y₀ row₀ x₀ pixels at first y row x = Going w h text at₀ pixels₀ pixels at first y row x
@@ -21,124 +16,94 @@ Inv-loop text width height pixels₀ w h rows table at₀ first₀ y₀ row₀ x
 abbrev μ-loop : tie.MeasureT-loop
 μ-loop text width height pixels₀ w h rows table at₀ first₀ y₀ row₀ x₀ pixels at first y row x = count w h (length pixels₀) - (y * rowBytes w + x / 8)
 
--- src/lib.rt:165:16
 div-rows : tie.Need-div-rows Inv-loop μ-loop
 div-rows c = search needs
 
--- src/lib.rt:172:5
 loop-holds : tie.Need-loop-holds Inv-loop μ-loop
 loop-holds c = search (going·laws, needs)
 
--- src/lib.rt:173:15
 next-data-requires : tie.Need-next-data-requires Inv-loop μ-loop
 unfolding hexTable hexOf
 next-data-requires c κs = search needs
 
--- src/lib.rt:174:27
 enum-known-v : tie.Need-enum-known-v Inv-loop μ-loop
 enum-known-v c = search needs
 
--- src/lib.rt:176:21
 same-length : tie.Need-same-length Inv-loop μ-loop
 same-length c = search needs
 
--- src/lib.rt:176:21
 returns : tie.Need-returns Inv-loop μ-loop
 returns c = search (going·laws, needs)
 
--- src/lib.rt:178:28
 sub-left : tie.Need-sub-left Inv-loop μ-loop
 sub-left c = search needs
 
--- src/lib.rt:180:39
 add-unpack : tie.Need-add-unpack Inv-loop μ-loop
 add-unpack c = search (room·laws, needs)
 
--- src/lib.rt:180:21
 unpack-requires : tie.Need-unpack-requires Inv-loop μ-loop
 unpack-requires c κs = search (room·laws, needs)
 
--- src/lib.rt:181:21
 add-x : tie.Need-add-x Inv-loop μ-loop
 add-x c = search needs
 
--- src/lib.rt:183:39
 add-unpack-2 : tie.Need-add-unpack-2 Inv-loop μ-loop
 add-unpack-2 c = search (room·laws, needs)
 
--- src/lib.rt:183:21
 unpack-requires-2 : tie.Need-unpack-requires-2 Inv-loop μ-loop
 unpack-requires-2 c κs = search (room·laws, needs)
 
--- src/lib.rt:184:21
 add-row : tie.Need-add-row Inv-loop μ-loop
 add-row c = search (room·laws, needs)
 
--- src/lib.rt:185:21
 add-y : tie.Need-add-y Inv-loop μ-loop
 add-y c = search needs
 
--- src/lib.rt:172:5
 loop-less : tie.Need-loop-less Inv-loop μ-loop
 loop-less c = search (going·laws, needs)
 
--- src/lib.rt:172:5
 loop-again : tie.Need-loop-again Inv-loop μ-loop
 loop-again c = search (going·laws, needs)
 
--- src/lib.rt:172:5
 loop-less-2 : tie.Need-loop-less-2 Inv-loop μ-loop
 loop-less-2 c = search (going·laws, needs)
 
--- src/lib.rt:172:5
 loop-again-2 : tie.Need-loop-again-2 Inv-loop μ-loop
 loop-again-2 c = search (going·laws, needs)
 
--- src/lib.rt:191:31
 enum-known-part : tie.Need-enum-known-part Inv-loop μ-loop
 enum-known-part c = search needs
 
--- src/lib.rt:191:43
 same-length-2 : tie.Need-same-length-2 Inv-loop μ-loop
 same-length-2 c = search needs
 
--- src/lib.rt:191:43
 returns-2 : tie.Need-returns-2 Inv-loop μ-loop
 returns-2 c = search (going·laws, needs)
 
--- src/lib.rt:194:11
 read-trailer-requires : tie.Need-read-trailer-requires Inv-loop μ-loop
 read-trailer-requires c κs = search needs
 
--- src/lib.rt:196:16
 enum-told : tie.Need-enum-told Inv-loop μ-loop
 enum-told c = search needs
 
--- src/lib.rt:197:17
 same-length-3 : tie.Need-same-length-3 Inv-loop μ-loop
 same-length-3 c = search needs
 
--- src/lib.rt:197:17
 returns-3 : tie.Need-returns-3 Inv-loop μ-loop
 returns-3 c = search (going·laws, needs)
 
--- src/lib.rt:201:25
 enum-known-part-2 : tie.Need-enum-known-part-2 Inv-loop μ-loop
 enum-known-part-2 c = search needs
 
--- src/lib.rt:153:1
 same-length-4 : tie.Need-same-length-4 Inv-loop μ-loop
 same-length-4 c = search needs
 
--- src/lib.rt:153:1
 returns-4 : tie.Need-returns-4 Inv-loop μ-loop
 returns-4 c = search (going·laws, needs)
 
--- src/lib.rt:153:1
 same-length-5 : tie.Need-same-length-5 Inv-loop μ-loop
 same-length-5 c = search needs
 
--- src/lib.rt:153:1
 returns-5 : tie.Need-returns-5 Inv-loop μ-loop
 returns-5 c = search (going·laws, needs)
 

@@ -1,78 +1,57 @@
+-- `integer::parse_i32` meets its contract: each return is a law (`signed-none`, `signed-minus`, `signed-minus-bad`, `signed-plain`).
 use Rattle.integer.proofs.Laws.{signed-none, signed-minus, signed-minus-bad, signed-plain, signed-plain-bad}
 use borrow.Author.Needs.{needs}
 use Rattle.integer.proofs.parse_i32.Statement.{statement}
 use Rattle.integer.proofs.parse_i32.Tie as tie
-use Rattle.integer.proofs.parse_i32.Reads as reads
-use Rattle.integer.proofs.parse_i32.Lts as lts
-use Rattle.integer.proofs.parse_u32.Reads as parse-u32-reads
-use Rattle.integer.proofs.to_negative.Reads as to-negative-reads
-use Rattle.integer.proofs.to_positive.Reads as to-positive-reads
 
--- src/lib.rt:76:9
 returns : tie.Need-returns
 returns c = search (signed-none, needs)
 
--- src/lib.rt:78:8
 shared-slice-read-if2 : tie.Need-shared-slice-read-if2
 shared-slice-read-if2 c = search needs
 
--- src/lib.rt:79:25
 sub-parse-u32 : tie.Need-sub-parse-u32
 sub-parse-u32 c = search needs
 
--- src/lib.rt:79:25
 part-parse-u32-start : tie.Need-part-parse-u32-start
 part-parse-u32-start c = search needs
 
--- src/lib.rt:79:25
 part-parse-u32-end : tie.Need-part-parse-u32-end
 part-parse-u32-end c = search needs
 
--- src/lib.rt:79:15
 parse-u32-requires : tie.Need-parse-u32-requires
 parse-u32-requires c κs = search needs
 
--- src/lib.rt:80:29
 enum-known-n : tie.Need-enum-known-n
 enum-known-n c = search needs
 
--- src/lib.rt:80:35
 to-negative-requires : tie.Need-to-negative-requires
 to-negative-requires c κs = search needs
 
--- src/lib.rt:81:30
 enum-told : tie.Need-enum-told
 enum-told c = search needs
 
--- src/lib.rt:84:15
 parse-u32-requires-2 : tie.Need-parse-u32-requires-2
 parse-u32-requires-2 c κs = search needs
 
--- src/lib.rt:85:29
 enum-known-n-2 : tie.Need-enum-known-n-2
 enum-known-n-2 c = search needs
 
--- src/lib.rt:85:35
 to-positive-requires : tie.Need-to-positive-requires
 to-positive-requires c κs = search needs
 
--- src/lib.rt:86:30
 enum-told-2 : tie.Need-enum-told-2
 enum-told-2 c = search needs
 
--- src/lib.rt:72:1
 returns-2 : tie.Need-returns-2
 returns-2 c = search (signed-minus, needs)
 
--- src/lib.rt:72:1
 returns-3 : tie.Need-returns-3
 returns-3 c = search (signed-minus-bad, needs)
 
--- src/lib.rt:72:1
 returns-4 : tie.Need-returns-4
 returns-4 c = search (signed-plain, needs)
 
--- src/lib.rt:72:1
 returns-5 : tie.Need-returns-5
 returns-5 c = search (signed-plain-bad, needs)
 

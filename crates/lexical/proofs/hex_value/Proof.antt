@@ -1,43 +1,33 @@
+-- `lexical::hex_value` meets its contract: each return is a law (`hex-0`, `hex-1`, `hex-2`, `hex-3`).
 use Rattle.lexical.proofs.Hex.{hex-0, hex-1, hex-2, hex-3, hex-4, hex-5, hex-6}
 use borrow.Author.Needs.{needs}
 use Rattle.lexical.proofs.hex_value.Statement.{statement}
 use Rattle.lexical.proofs.hex_value.Tie as tie
-use Rattle.lexical.proofs.hex_value.Reads as reads
-use Rattle.lexical.proofs.hex_value.Lts as lts
 
--- src/lib.rt:23:9
 returns : tie.Need-returns
 returns c = search (hex-0, needs)
 
--- src/lib.rt:26:9
 returns-2 : tie.Need-returns-2
 returns-2 c = search (hex-1, needs)
 
--- src/lib.rt:29:9
 returns-3 : tie.Need-returns-3
 returns-3 c = search (hex-2, needs)
 
--- src/lib.rt:32:16
 add-result : tie.Need-add-result
 add-result c = search needs
 
--- src/lib.rt:32:9
 returns-4 : tie.Need-returns-4
 returns-4 c = search (hex-3, needs)
 
--- src/lib.rt:35:9
 returns-5 : tie.Need-returns-5
 returns-5 c = search (hex-4, needs)
 
--- src/lib.rt:38:16
 add-result-2 : tie.Need-add-result-2
 add-result-2 c = search needs
 
--- src/lib.rt:38:9
 returns-6 : tie.Need-returns-6
 returns-6 c = search (hex-5, needs)
 
--- src/lib.rt:19:1
 returns-7 : tie.Need-returns-7
 returns-7 c = search (hex-6, needs)
 

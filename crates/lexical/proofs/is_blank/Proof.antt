@@ -1,3 +1,4 @@
+-- `lexical::is_blank` meets its contract.
 use borrow.Author.Tests.{eq-eqb, ne-eqb}
 use Rattle.lexical.specs.Lexical.{isBlank}
 use Rattle.lexical.proofs.is_blank.Statement.{statement}

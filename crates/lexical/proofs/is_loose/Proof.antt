@@ -1,3 +1,4 @@
+-- `lexical::is_loose` meets its contract.
 use borrow.Author.Needs.{needs}
 use Rattle.lexical.specs.Lexical.{isLoose}
 use Rattle.lexical.proofs.is_loose.Statement.{statement}

@@ -1,3 +1,4 @@
+-- `lexical::is_mark` meets its contract.
 use borrow.Author.Tests.{eq-eqb, ne-eqb}
 use Rattle.lexical.specs.Hex.{isMark}
 use Rattle.lexical.proofs.is_mark.Statement.{statement}

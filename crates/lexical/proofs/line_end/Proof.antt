@@ -1,3 +1,4 @@
+-- `lexical::line_end` meets its contract: the loop keeps `Inv-loop`, and each way on is a law (`end·laws`).
 use borrow.Author.Needs.{needs}
 use Prim.Native.Nat.{_+_, _-_}
 use mathlib.Core.Path.{_≡_, refl}
@@ -6,8 +7,6 @@ use Rattle.lexical.specs.Lexical.{lineOf}
 use Rattle.lexical.proofs.Lines.{end·laws}
 use Rattle.lexical.proofs.line_end.Statement.{statement}
 use Rattle.lexical.proofs.line_end.Tie as tie
-use Rattle.lexical.proofs.line_end.Reads as reads
-use Rattle.lexical.proofs.line_end.Lts as lts
 
 abbrev Inv-loop : tie.InvT-loop
 Inv-loop text from i₀ i = i + length (lineOf (drop i text)) ≡ from + length (lineOf (drop from text))
@@ -15,31 +14,24 @@ Inv-loop text from i₀ i = i + length (lineOf (drop i text)) ≡ from + length 
 abbrev μ-loop : tie.MeasureT-loop
 μ-loop text from i₀ i = length text - i
 
--- src/lib.rt:213:5
 loop-holds : tie.Need-loop-holds Inv-loop μ-loop
 loop-holds c = refl
 
--- src/lib.rt:214:12
 shared-slice-read-if1 : tie.Need-shared-slice-read-if1 Inv-loop μ-loop
 shared-slice-read-if1 c = search needs
 
--- src/lib.rt:215:13
 returns : tie.Need-returns Inv-loop μ-loop
 returns c = search (end·laws, needs)
 
--- src/lib.rt:217:9
 add-i : tie.Need-add-i Inv-loop μ-loop
 add-i c = search needs
 
--- src/lib.rt:213:5
 loop-less : tie.Need-loop-less Inv-loop μ-loop
 loop-less c = search needs
 
--- src/lib.rt:213:5
 loop-again : tie.Need-loop-again Inv-loop μ-loop
 loop-again c = search (end·laws, needs)
 
--- src/lib.rt:209:1
 returns-2 : tie.Need-returns-2 Inv-loop μ-loop
 returns-2 c = search (end·laws, needs)
 

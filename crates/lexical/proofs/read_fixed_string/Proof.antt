@@ -1,3 +1,4 @@
+-- `lexical::read_fixed_string` meets its contract: the loop keeps `Inv-loop`, and each way on is a law (`fixed·laws`).
 use borrow.Author.Needs.{needs}
 use Prim.Native.Nat.{_≤_, _-_}
 use mathlib.Core.Path.{_≡_, refl}
@@ -7,9 +8,6 @@ use Rattle.lexical.specs.Lexical.{fixed, number}
 use Rattle.lexical.proofs.Laws.{fixed·laws}
 use Rattle.lexical.proofs.read_fixed_string.Statement.{statement}
 use Rattle.lexical.proofs.read_fixed_string.Tie as tie
-use Rattle.lexical.proofs.read_fixed_string.Reads as reads
-use Rattle.lexical.proofs.read_fixed_string.Lts as lts
-use Rattle.text.proofs.take.Reads as take-reads
 
 abbrev Inv-loop : tie.InvT-loop
 Inv-loop text s part at₀ i₀ at i =
@@ -18,47 +16,36 @@ Inv-loop text s part at₀ i₀ at i =
 abbrev μ-loop : tie.MeasureT-loop
 μ-loop text s part at₀ i₀ at i = length s - i
 
--- src/lib.rt:121:5
 loop-holds : tie.Need-loop-holds Inv-loop μ-loop
 loop-holds c = (omega arith, refl)
 
--- src/lib.rt:122:15
 take-requires : tie.Need-take-requires Inv-loop μ-loop
 take-requires c κs = search needs
 
--- src/lib.rt:123:24
 enum-known-b : tie.Need-enum-known-b Inv-loop μ-loop
 enum-known-b c = search needs
 
--- src/lib.rt:124:25
 shared-slice-read-if1 : tie.Need-shared-slice-read-if1 Inv-loop μ-loop
 shared-slice-read-if1 c = search needs
 
--- src/lib.rt:127:21
 returns : tie.Need-returns Inv-loop μ-loop
 returns c = search (fixed·laws, needs)
 
--- src/lib.rt:130:26
 enum-told : tie.Need-enum-told Inv-loop μ-loop
 enum-told c = search needs
 
--- src/lib.rt:130:26
 returns-2 : tie.Need-returns-2 Inv-loop μ-loop
 returns-2 c = search (fixed·laws, needs)
 
--- src/lib.rt:132:9
 add-i : tie.Need-add-i Inv-loop μ-loop
 add-i c = search needs
 
--- src/lib.rt:121:5
 loop-less : tie.Need-loop-less Inv-loop μ-loop
 loop-less c = search needs
 
--- src/lib.rt:121:5
 loop-again : tie.Need-loop-again Inv-loop μ-loop
 loop-again c = (omega arith, search (fixed·laws, needs))
 
--- src/lib.rt:116:1
 returns-3 : tie.Need-returns-3 Inv-loop μ-loop
 returns-3 c = search (fixed·laws, needs)
 

@@ -1,74 +1,56 @@
+-- `lexical::read_hex_byte` meets its contract: each return is a law (`pass·laws`, `one·laws`, `hi-fits`, `byte-fits`).
 use Rattle.lexical.proofs.Laws.{pass·laws}
 use Rattle.lexical.proofs.Hex.{one·laws, hi-fits, byte-fits}
 use Rattle.lexical.specs.Hex.{hexUnit, hexDigits}
 use borrow.Author.Needs.{needs}
 use Rattle.lexical.proofs.read_hex_byte.Statement.{statement}
 use Rattle.lexical.proofs.read_hex_byte.Tie as tie
-use Rattle.lexical.proofs.read_hex_byte.Reads as reads
-use Rattle.lexical.proofs.read_hex_byte.Lts as lts
-use Rattle.lexical.proofs.read_hex_digit.Reads as read-hex-digit-reads
-use Rattle.lexical.proofs.read_hex_start.Reads as read-hex-start-reads
 
--- src/lib.rt:90:19
 read-hex-start-requires : tie.Need-read-hex-start-requires
 read-hex-start-requires c κs = search needs
 
--- src/lib.rt:91:20
 enum-known-p : tie.Need-enum-known-p
 enum-known-p c = search needs
 
--- src/lib.rt:92:25
 enum-known-q : tie.Need-enum-known-q
 enum-known-q c = search needs
 
--- src/lib.rt:92:35
 returns : tie.Need-returns
 unfolding hexUnit hexDigits
 returns c = search (pass·laws, one·laws, needs)
 
--- src/lib.rt:94:11
 read-hex-digit-requires : tie.Need-read-hex-digit-requires
 read-hex-digit-requires c κs = search needs
 
--- src/lib.rt:95:18
 enum-known-hi : tie.Need-enum-known-hi
 enum-known-hi c = search needs
 
--- src/lib.rt:95:34
 read-hex-digit-requires-2 : tie.Need-read-hex-digit-requires-2
 read-hex-digit-requires-2 c κs = search needs
 
--- src/lib.rt:96:22
 enum-known-lo : tie.Need-enum-known-lo
 enum-known-lo c = search needs
 
--- src/lib.rt:96:41
 mul-t22 : tie.Need-mul-t22
 mul-t22 c = search (hi-fits, needs)
 
--- src/lib.rt:96:41
 add-t23 : tie.Need-add-t23
 add-t23 c = search (byte-fits, needs)
 
--- src/lib.rt:97:26
 enum-known-q-2 : tie.Need-enum-known-q-2
 enum-known-q-2 c = search needs
 
--- src/lib.rt:99:22
 enum-known-q-3 : tie.Need-enum-known-q-3
 enum-known-q-3 c = search needs
 
--- src/lib.rt:87:1
 returns-2 : tie.Need-returns-2
 unfolding hexUnit hexDigits
 returns-2 c = search (pass·laws, one·laws, needs)
 
--- src/lib.rt:87:1
 returns-3 : tie.Need-returns-3
 unfolding hexUnit hexDigits
 returns-3 c = search (pass·laws, one·laws, needs)
 
--- src/lib.rt:87:1
 returns-4 : tie.Need-returns-4
 unfolding hexUnit hexDigits
 returns-4 c = search (pass·laws, one·laws, needs)

@@ -1,40 +1,30 @@
+-- `lexical::read_to_newline` meets its contract: each return is a law (`byte·laws`).
 use borrow.Author.Needs.{needs}
 use Rattle.lexical.proofs.Laws.{byte·laws}
 use Rattle.lexical.specs.Lexical.{lineEnd}
 use Rattle.lexical.proofs.read_to_newline.Statement.{statement}
 use Rattle.lexical.proofs.read_to_newline.Tie as tie
-use Rattle.lexical.proofs.read_to_newline.Reads as reads
-use Rattle.lexical.proofs.read_to_newline.Lts as lts
-use Rattle.lexical.proofs.skip_blanks.Reads as skip-blanks-reads
-use Rattle.text.proofs.take.Reads as take-reads
 
--- src/lib.rt:102:9
 skip-blanks-requires : tie.Need-skip-blanks-requires
 skip-blanks-requires c κs = search needs
 
--- src/lib.rt:103:11
 take-requires : tie.Need-take-requires
 take-requires c κs = search needs
 
--- src/lib.rt:104:20
 enum-known-b : tie.Need-enum-known-b
 enum-known-b c = search needs
 
--- src/lib.rt:111:22
 enum-told : tie.Need-enum-told
 enum-told c = search needs
 
--- src/lib.rt:99:1
 returns : tie.Need-returns
 unfolding lineEnd
 returns c = search (byte·laws, needs)
 
--- src/lib.rt:99:1
 returns-2 : tie.Need-returns-2
 unfolding lineEnd
 returns-2 c = search (byte·laws, needs)
 
--- src/lib.rt:99:1
 returns-3 : tie.Need-returns-3
 unfolding lineEnd
 returns-3 c = search (byte·laws, needs)

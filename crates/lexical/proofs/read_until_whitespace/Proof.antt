@@ -1,3 +1,4 @@
+-- `lexical::read_until_whitespace` meets its contract: the loop keeps `Inv-loop`, and each way on is a law (`storing·laws`, `next-less`).
 use borrow.Author.Needs.{needs}
 use native.Mathlib.Omega.{arith}
 use lib.ListN.{length, length-set}
@@ -7,10 +8,6 @@ use Rattle.text.proofs.Laws.{next-less}
 use Rattle.lexical.proofs.Tokens.{Storing, storing-none, storing·laws}
 use Rattle.lexical.proofs.read_until_whitespace.Statement.{statement}
 use Rattle.lexical.proofs.read_until_whitespace.Tie as tie
-use Rattle.lexical.proofs.read_until_whitespace.Reads as reads
-use Rattle.lexical.proofs.read_until_whitespace.Lts as lts
-use Rattle.lexical.proofs.is_loose.Reads as is-loose-reads
-use Rattle.text.proofs.take.Reads as take-reads
 
 abbrev Inv-loop : tie.InvT-loop
 Inv-loop text buf₀ part at₀ len₀ buf at len = Storing isLoose (number part) text buf₀ at₀ buf at len
@@ -18,63 +15,48 @@ Inv-loop text buf₀ part at₀ len₀ buf at len = Storing isLoose (number part
 abbrev μ-loop : tie.MeasureT-loop
 μ-loop text buf₀ part at₀ len₀ buf at len = length (rest text at)
 
--- src/lib.rt:25:5
 loop-holds : tie.Need-loop-holds Inv-loop μ-loop
 loop-holds c = storing-none _ _ _ _ _
 
--- src/lib.rt:26:15
 take-requires : tie.Need-take-requires Inv-loop μ-loop
 take-requires c κs = search needs
 
--- src/lib.rt:27:24
 enum-known-b : tie.Need-enum-known-b Inv-loop μ-loop
 enum-known-b c = search needs
 
--- src/lib.rt:28:20
 is-loose-requires : tie.Need-is-loose-requires Inv-loop μ-loop
 is-loose-requires c κs = search needs
 
--- src/lib.rt:29:21
 same-length : tie.Need-same-length Inv-loop μ-loop
 same-length c = search needs
 
--- src/lib.rt:29:21
 returns : tie.Need-returns Inv-loop μ-loop
 returns c = search (storing·laws, needs)
 
--- src/lib.rt:32:21
 same-length-2 : tie.Need-same-length-2 Inv-loop μ-loop
 same-length-2 c = search needs
 
--- src/lib.rt:32:21
 returns-2 : tie.Need-returns-2 Inv-loop μ-loop
 returns-2 c = search (storing·laws, needs)
 
--- src/lib.rt:34:17
 slice-write-buf : tie.Need-slice-write-buf Inv-loop μ-loop
 slice-write-buf c = search needs
 
--- src/lib.rt:35:17
 add-len : tie.Need-add-len Inv-loop μ-loop
 add-len c = search needs
 
--- src/lib.rt:25:5
 loop-less : tie.Need-loop-less Inv-loop μ-loop
 loop-less c = search (next-less, needs)
 
--- src/lib.rt:25:5
 loop-again : tie.Need-loop-again Inv-loop μ-loop
 loop-again c = search (storing·laws, needs)
 
--- src/lib.rt:38:26
 enum-told : tie.Need-enum-told Inv-loop μ-loop
 enum-told c = search needs
 
--- src/lib.rt:38:26
 same-length-3 : tie.Need-same-length-3 Inv-loop μ-loop
 same-length-3 c = search needs
 
--- src/lib.rt:38:26
 returns-3 : tie.Need-returns-3 Inv-loop μ-loop
 returns-3 c = search (storing·laws, needs)
 

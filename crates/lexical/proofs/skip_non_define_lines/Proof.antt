@@ -1,3 +1,4 @@
+-- `lexical::skip_non_define_lines` meets its contract: the loop keeps `Inv-loop`, and each way on is a law (`lines·laws`).
 use borrow.Author.Needs.{needs}
 use mathlib.Core.Path.{_≡_, refl}
 use mathlib.Core.Bool.{true}
@@ -7,10 +8,6 @@ use Rattle.lexical.specs.Lexical.{number, leading}
 use Rattle.lexical.proofs.Lines.{lines·laws}
 use Rattle.lexical.proofs.skip_non_define_lines.Statement.{statement}
 use Rattle.lexical.proofs.skip_non_define_lines.Tie as tie
-use Rattle.lexical.proofs.skip_non_define_lines.Reads as reads
-use Rattle.lexical.proofs.skip_non_define_lines.Lts as lts
-use Rattle.lexical.proofs.skip_line.Reads as skip-line-reads
-use Rattle.text.proofs.peek.Reads as peek-reads
 
 abbrev Inv-loop : tie.InvT-loop
 Inv-loop text part at₀ at = leading (number part) true text at ≡ leading (number part) true text at₀
@@ -18,51 +15,39 @@ Inv-loop text part at₀ at = leading (number part) true text at ≡ leading (nu
 abbrev μ-loop : tie.MeasureT-loop
 μ-loop text part at₀ at = length (rest text at)
 
--- src/lib.rt:262:5
 loop-holds : tie.Need-loop-holds Inv-loop μ-loop
 loop-holds c = refl
 
--- src/lib.rt:263:15
 peek-requires : tie.Need-peek-requires Inv-loop μ-loop
 peek-requires c κs = search needs
 
--- src/lib.rt:264:27
 enum-known-b : tie.Need-enum-known-b Inv-loop μ-loop
 enum-known-b c = search needs
 
--- src/lib.rt:266:21
 returns : tie.Need-returns Inv-loop μ-loop
 returns c = search (lines·laws, needs)
 
--- src/lib.rt:269:32
 enum-told : tie.Need-enum-told Inv-loop μ-loop
 enum-told c = search needs
 
--- src/lib.rt:269:32
 returns-2 : tie.Need-returns-2 Inv-loop μ-loop
 returns-2 c = search (lines·laws, needs)
 
--- src/lib.rt:271:15
 skip-line-requires : tie.Need-skip-line-requires Inv-loop μ-loop
 skip-line-requires c κs = search needs
 
--- src/lib.rt:272:24
 enum-known-next : tie.Need-enum-known-next Inv-loop μ-loop
 enum-known-next c = search needs
 
--- src/lib.rt:262:5
 loop-less : tie.Need-loop-less Inv-loop μ-loop
 loop-less c = search (lines·laws, needs)
 
--- src/lib.rt:262:5
 loop-again : tie.Need-loop-again Inv-loop μ-loop
 loop-again c = search (lines·laws, needs)
 
--- src/lib.rt:275:29
 enum-known-q : tie.Need-enum-known-q Inv-loop μ-loop
 enum-known-q c = search needs
 
--- src/lib.rt:275:40
 returns-3 : tie.Need-returns-3 Inv-loop μ-loop
 returns-3 c = search (lines·laws, needs)
 

@@ -1,12 +1,10 @@
+-- `listing::count_ink` meets its contract: the loop keeps `Inv-loop`, and each way on is a law (`counting·laws`).
 use borrow.Author.Needs.{needs}
 use Prim.Native.Nat.{_-_}
 use lib.ListN.{length}
 use Rattle.listing.proofs.Laws.{Counting, counting·laws}
 use Rattle.listing.proofs.count_ink.Statement.{statement}
 use Rattle.listing.proofs.count_ink.Tie as tie
-use Rattle.listing.proofs.count_ink.Reads as reads
-use Rattle.listing.proofs.count_ink.Lts as lts
-use Rattle.listing.proofs.ink.Reads as ink-reads
 
 abbrev Inv-loop : tie.InvT-loop
 Inv-loop cells n₀ i₀ n i = Counting cells n i
@@ -14,35 +12,27 @@ Inv-loop cells n₀ i₀ n i = Counting cells n i
 abbrev μ-loop : tie.MeasureT-loop
 μ-loop cells n₀ i₀ n i = length cells - i
 
--- src/lib.rt:75:5
 loop-holds : tie.Need-loop-holds Inv-loop μ-loop
 loop-holds c = search (counting·laws, needs)
 
--- src/lib.rt:76:18
 shared-slice-read-ink : tie.Need-shared-slice-read-ink Inv-loop μ-loop
 shared-slice-read-ink c = search (counting·laws, needs)
 
--- src/lib.rt:76:14
 ink-requires : tie.Need-ink-requires Inv-loop μ-loop
 ink-requires c κs = search (counting·laws, needs)
 
--- src/lib.rt:76:9
 add-n : tie.Need-add-n Inv-loop μ-loop
 add-n c = search (counting·laws, needs)
 
--- src/lib.rt:77:9
 add-i : tie.Need-add-i Inv-loop μ-loop
 add-i c = search (counting·laws, needs)
 
--- src/lib.rt:75:5
 loop-less : tie.Need-loop-less Inv-loop μ-loop
 loop-less c = search (counting·laws, needs)
 
--- src/lib.rt:75:5
 loop-again : tie.Need-loop-again Inv-loop μ-loop
 loop-again c = search (counting·laws, needs)
 
--- src/lib.rt:70:1
 returns : tie.Need-returns Inv-loop μ-loop
 returns c = search (counting·laws, needs)
 

@@ -1,70 +1,51 @@
+-- `listing::list_image` meets its contract: each return is a law (`imaging·laws`).
 use borrow.Author.Needs.{needs}
 use Rattle.listing.proofs.Laws.{imaging·laws}
 use Rattle.listing.proofs.list_image.Statement.{statement}
 use Rattle.listing.proofs.list_image.Tie as tie
-use Rattle.listing.proofs.list_image.Reads as reads
-use Rattle.listing.proofs.list_image.Lts as lts
-use Rattle.image.proofs.read_image.Reads as read-image-reads
-use Rattle.listing.proofs.count_ink.Reads as count-ink-reads
-use Rattle.listing.proofs.refusal.Reads as refusal-reads
 
--- src/lib.rt:87:9
 read-image-requires : tie.Need-read-image-requires
 read-image-requires c κs = search needs
 
--- src/lib.rt:90:25
 enum-known-image : tie.Need-enum-known-image
 enum-known-image c = search needs
 
--- src/lib.rt:90:55
 count-ink-requires : tie.Need-count-ink-requires
 count-ink-requires c κs = search needs
 
--- src/lib.rt:91:28
 enum-known-image-2 : tie.Need-enum-known-image-2
 enum-known-image-2 c = search needs
 
--- src/lib.rt:91:34
 refusal-requires : tie.Need-refusal-requires
 refusal-requires c κs = search needs
 
--- src/lib.rt:92:41
 enum-told : tie.Need-enum-told
 enum-told c = search needs
 
--- src/lib.rt:84:1
 same-length : tie.Need-same-length
 same-length c = search needs
 
--- src/lib.rt:84:1
 same-length-2 : tie.Need-same-length-2
 same-length-2 c = search needs
 
--- src/lib.rt:84:1
 returns : tie.Need-returns
 returns c = search (imaging·laws, needs)
 
--- src/lib.rt:84:1
 same-length-3 : tie.Need-same-length-3
 same-length-3 c = search needs
 
--- src/lib.rt:84:1
 same-length-4 : tie.Need-same-length-4
 same-length-4 c = search needs
 
--- src/lib.rt:84:1
 returns-2 : tie.Need-returns-2
 returns-2 c = search (imaging·laws, needs)
 
--- src/lib.rt:84:1
 same-length-5 : tie.Need-same-length-5
 same-length-5 c = search needs
 
--- src/lib.rt:84:1
 same-length-6 : tie.Need-same-length-6
 same-length-6 c = search needs
 
--- src/lib.rt:84:1
 returns-3 : tie.Need-returns-3
 returns-3 c = search (imaging·laws, needs)
 

@@ -1,40 +1,30 @@
+-- `listing::put_place` meets its contract: each return is a law (`text·laws`).
 use borrow.Author.Needs.{needs}
 use Rattle.listing.proofs.Laws.{text·laws}
 use Rattle.listing.proofs.put_place.Statement.{statement}
 use Rattle.listing.proofs.put_place.Tie as tie
-use Rattle.listing.proofs.put_place.Reads as reads
-use Rattle.listing.proofs.put_place.Lts as lts
-use Rattle.listing.proofs.put_field.Reads as put-field-reads
 
--- src/lib.rt:142:32
 slice-aggregate-put-field : tie.Need-slice-aggregate-put-field
 slice-aggregate-put-field c = search needs
 
--- src/lib.rt:142:9
 put-field-requires : tie.Need-put-field-requires
 put-field-requires c κs = search needs
 
--- src/lib.rt:143:31
 slice-aggregate-put-field-2 : tie.Need-slice-aggregate-put-field-2
 slice-aggregate-put-field-2 c = search needs
 
--- src/lib.rt:143:9
 put-field-requires-2 : tie.Need-put-field-requires-2
 put-field-requires-2 c κs = search needs
 
--- src/lib.rt:144:23
 slice-aggregate-put-field-3 : tie.Need-slice-aggregate-put-field-3
 slice-aggregate-put-field-3 c = search needs
 
--- src/lib.rt:144:5
 put-field-requires-3 : tie.Need-put-field-requires-3
 put-field-requires-3 c κs = search needs
 
--- src/lib.rt:136:1
 same-length : tie.Need-same-length
 same-length c = search needs
 
--- src/lib.rt:136:1
 returns : tie.Need-returns
 returns c = search (text·laws, needs)
 

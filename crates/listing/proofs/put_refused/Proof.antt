@@ -1,38 +1,27 @@
+-- `listing::put_refused` meets its contract: each return is a law (`text·laws`).
 use borrow.Author.Needs.{needs}
 use Rattle.listing.proofs.Laws.{text·laws}
 use Rattle.listing.proofs.put_refused.Statement.{statement}
 use Rattle.listing.proofs.put_refused.Tie as tie
-use Rattle.listing.proofs.put_refused.Reads as reads
-use Rattle.listing.proofs.put_refused.Lts as lts
-use Rattle.listing.proofs.put_field.Reads as put-field-reads
-use Rattle.listing.proofs.put_place.Reads as put-place-reads
-use Rattle.print.proofs.put_bytes.Reads as put-bytes-reads
 
--- src/lib.rt:199:31
 slice-aggregate-put-field : tie.Need-slice-aggregate-put-field
 slice-aggregate-put-field c = search needs
 
--- src/lib.rt:199:9
 put-field-requires : tie.Need-put-field-requires
 put-field-requires c κs = search needs
 
--- src/lib.rt:200:9
 put-place-requires : tie.Need-put-place-requires
 put-place-requires c κs = search needs
 
--- src/lib.rt:201:23
 slice-aggregate-put-bytes : tie.Need-slice-aggregate-put-bytes
 slice-aggregate-put-bytes c = search needs
 
--- src/lib.rt:201:5
 put-bytes-requires : tie.Need-put-bytes-requires
 put-bytes-requires c κs = search needs
 
--- src/lib.rt:196:1
 same-length : tie.Need-same-length
 same-length c = search needs
 
--- src/lib.rt:196:1
 returns : tie.Need-returns
 returns c = search (text·laws, needs)
 

@@ -1,52 +1,39 @@
+-- `listing::refusal` meets its contract: each return is a law (`refusal·laws`).
 use borrow.Author.Needs.{needs}
 use Rattle.listing.proofs.Laws.{refusal·laws}
 use Rattle.listing.proofs.refusal.Statement.{statement}
 use Rattle.listing.proofs.refusal.Tie as tie
-use Rattle.listing.proofs.refusal.Reads as reads
-use Rattle.listing.proofs.refusal.Lts as lts
-use Rattle.lexical.proofs.part_number.Reads as part-number-reads
 
--- src/lib.rt:52:31
 enum-known-e : tie.Need-enum-known-e
 enum-known-e c = search needs
 
--- src/lib.rt:52:63
 part-number-requires : tie.Need-part-number-requires
 part-number-requires c κs = search needs
 
--- src/lib.rt:53:39
 enum-known-e-2 : tie.Need-enum-known-e-2
 enum-known-e-2 c = search needs
 
--- src/lib.rt:53:69
 part-number-requires-2 : tie.Need-part-number-requires-2
 part-number-requires-2 c κs = search needs
 
--- src/lib.rt:53:69
 add-t8 : tie.Need-add-t8
 add-t8 c = search (refusal·laws, needs)
 
--- src/lib.rt:54:38
 enum-told : tie.Need-enum-told
 enum-told c = search needs
 
--- src/lib.rt:55:39
 enum-told-2 : tie.Need-enum-told-2
 enum-told-2 c = search needs
 
--- src/lib.rt:48:1
 returns : tie.Need-returns
 returns c = search (refusal·laws, needs)
 
--- src/lib.rt:48:1
 returns-2 : tie.Need-returns-2
 returns-2 c = search (refusal·laws, needs)
 
--- src/lib.rt:48:1
 returns-3 : tie.Need-returns-3
 returns-3 c = search needs
 
--- src/lib.rt:48:1
 returns-4 : tie.Need-returns-4
 returns-4 c = search needs
 

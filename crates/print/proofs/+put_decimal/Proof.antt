@@ -22,7 +22,6 @@ abbrev put-decimal-below : ℕ → In 1 put-decimal-kinds.ps
 put-decimal-below t =
     and 1 put-decimal-kinds.ps (falls 1 put-decimal-kinds.ps _<_ μ-put-decimal t) put-decimal.Pre
 
--- src/lib.rt:35:42
 put-decimal-cast-put-byte : (t : ℕ) → put-decimal-lts.Need-cast-put-byte (
   put-byte-reads.Asked,
   put-byte-reads.Learnt,
@@ -31,7 +30,6 @@ put-decimal-cast-put-byte : (t : ℕ) → put-decimal-lts.Need-cast-put-byte (
 ) (put-decimal-at t) put-decimal.Post
 put-decimal-cast-put-byte t c = search (digit·laws, needs)
 
--- src/lib.rt:35:34
 put-decimal-add-put-byte : (t : ℕ) → put-decimal-lts.Need-add-put-byte (
   put-byte-reads.Asked,
   put-byte-reads.Learnt,
@@ -40,7 +38,6 @@ put-decimal-add-put-byte : (t : ℕ) → put-decimal-lts.Need-add-put-byte (
 ) (put-decimal-at t) put-decimal.Post
 put-decimal-add-put-byte t c = search (digit·laws, needs)
 
--- src/lib.rt:35:9
 put-decimal-put-byte-requires : (t : ℕ) → put-decimal-lts.Need-put-byte-requires (
   put-byte-reads.Asked,
   put-byte-reads.Learnt,
@@ -49,7 +46,6 @@ put-decimal-put-byte-requires : (t : ℕ) → put-decimal-lts.Need-put-byte-requ
 ) (put-decimal-at t) put-decimal.Post
 put-decimal-put-byte-requires t c κs = search (digit·laws, needs)
 
--- src/lib.rt:35:9
 put-decimal-same-length : (t : ℕ) → put-decimal-lts.Need-same-length (
   put-byte-reads.Asked,
   put-byte-reads.Learnt,
@@ -58,7 +54,6 @@ put-decimal-same-length : (t : ℕ) → put-decimal-lts.Need-same-length (
 ) (put-decimal-at t) put-decimal.Post
 put-decimal-same-length t c = search (digit·laws, needs)
 
--- src/lib.rt:35:9
 put-decimal-returns : (t : ℕ) → put-decimal-lts.Need-returns (
   put-byte-reads.Asked,
   put-byte-reads.Learnt,
@@ -67,7 +62,6 @@ put-decimal-returns : (t : ℕ) → put-decimal-lts.Need-returns (
 ) (put-decimal-at t) put-decimal.Post
 put-decimal-returns t c = search (digit·laws, needs)
 
--- src/lib.rt:37:9
 put-decimal-put-decimal-requires : (t : ℕ) → put-decimal-lts.Need-put-decimal-requires (
   put-byte-reads.Asked,
   put-byte-reads.Learnt,
@@ -76,7 +70,6 @@ put-decimal-put-decimal-requires : (t : ℕ) → put-decimal-lts.Need-put-decima
 ) (put-decimal-at t) put-decimal.Post
 put-decimal-put-decimal-requires t c κs = search (digit·laws, needs)
 
--- src/lib.rt:38:33
 put-decimal-cast-put-byte-2 : (t : ℕ) → put-decimal-lts.Need-cast-put-byte-2 (
   put-byte-reads.Asked,
   put-byte-reads.Learnt,
@@ -85,7 +78,6 @@ put-decimal-cast-put-byte-2 : (t : ℕ) → put-decimal-lts.Need-cast-put-byte-2
 ) (put-decimal-at t) put-decimal.Post
 put-decimal-cast-put-byte-2 t c = search (digit·laws, needs)
 
--- src/lib.rt:38:25
 put-decimal-add-put-byte-2 : (t : ℕ) → put-decimal-lts.Need-add-put-byte-2 (
   put-byte-reads.Asked,
   put-byte-reads.Learnt,
@@ -94,7 +86,6 @@ put-decimal-add-put-byte-2 : (t : ℕ) → put-decimal-lts.Need-add-put-byte-2 (
 ) (put-decimal-at t) put-decimal.Post
 put-decimal-add-put-byte-2 t c = search (digit·laws, needs)
 
--- src/lib.rt:38:5
 put-decimal-put-byte-requires-2 : (t : ℕ) → put-decimal-lts.Need-put-byte-requires-2 (
   put-byte-reads.Asked,
   put-byte-reads.Learnt,
@@ -103,7 +94,6 @@ put-decimal-put-byte-requires-2 : (t : ℕ) → put-decimal-lts.Need-put-byte-re
 ) (put-decimal-at t) put-decimal.Post
 put-decimal-put-byte-requires-2 t c κs = search (digit·laws, needs)
 
--- src/lib.rt:31:1
 put-decimal-same-length-2 : (t : ℕ) → put-decimal-lts.Need-same-length-2 (
   put-byte-reads.Asked,
   put-byte-reads.Learnt,
@@ -112,7 +102,6 @@ put-decimal-same-length-2 : (t : ℕ) → put-decimal-lts.Need-same-length-2 (
 ) (put-decimal-at t) put-decimal.Post
 put-decimal-same-length-2 t c = search (digit·laws, needs)
 
--- src/lib.rt:31:1
 put-decimal-returns-2 : (t : ℕ) → put-decimal-lts.Need-returns-2 (
   put-byte-reads.Asked,
   put-byte-reads.Learnt,

@@ -1,12 +1,10 @@
+-- `print::put_bytes` meets its contract: the loop keeps `Inv-loop`, and each way on is a law (`putting·laws`).
 use borrow.Author.Needs.{needs}
 use Prim.Native.Nat.{_-_}
 use lib.ListN.{length}
 use Rattle.print.proofs.Laws.{Putting, putting·laws}
 use Rattle.print.proofs.put_bytes.Statement.{statement}
 use Rattle.print.proofs.put_bytes.Tie as tie
-use Rattle.print.proofs.put_bytes.Reads as reads
-use Rattle.print.proofs.put_bytes.Lts as lts
-use Rattle.print.proofs.put_byte.Reads as put-byte-reads
 
 abbrev Inv-loop : tie.InvT-loop
 Inv-loop out₀ at s next₀ i₀ out next i = Putting s out₀ next₀ out next i
@@ -14,35 +12,27 @@ Inv-loop out₀ at s next₀ i₀ out next i = Putting s out₀ next₀ out next
 abbrev μ-loop : tie.MeasureT-loop
 μ-loop out₀ at s next₀ i₀ out next i = length s - i
 
--- src/lib.rt:23:5
 loop-holds : tie.Need-loop-holds Inv-loop μ-loop
 loop-holds c = search (putting·laws, needs)
 
--- src/lib.rt:24:36
 shared-slice-read-put-byte : tie.Need-shared-slice-read-put-byte Inv-loop μ-loop
 shared-slice-read-put-byte c = search (putting·laws, needs)
 
--- src/lib.rt:24:9
 put-byte-requires : tie.Need-put-byte-requires Inv-loop μ-loop
 put-byte-requires c κs = search (putting·laws, needs)
 
--- src/lib.rt:25:9
 add-i : tie.Need-add-i Inv-loop μ-loop
 add-i c = search (putting·laws, needs)
 
--- src/lib.rt:23:5
 loop-less : tie.Need-loop-less Inv-loop μ-loop
 loop-less c = search (putting·laws, needs)
 
--- src/lib.rt:23:5
 loop-again : tie.Need-loop-again Inv-loop μ-loop
 loop-again c = search (putting·laws, needs)
 
--- src/lib.rt:18:1
 same-length : tie.Need-same-length Inv-loop μ-loop
 same-length c = search (putting·laws, needs)
 
--- src/lib.rt:18:1
 returns : tie.Need-returns Inv-loop μ-loop
 returns c = search (putting·laws, needs)
 

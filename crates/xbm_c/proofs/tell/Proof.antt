@@ -14,12 +14,6 @@ use Rattle.xbm_c.specs.Next.{reported, nextNumber, nextReport}
 use Rattle.xbm_c.specs.Report.{nowhere}
 use Rattle.xbm_c.proofs.tell.Statement.{statement}
 use Rattle.xbm_c.proofs.tell.Tie as tie
-use Rattle.xbm_c.proofs.tell.Reads as reads
-use Rattle.xbm_c.proofs.tell.Lts as lts
-use Rattle.xbm_c.proofs.no_place.Reads as no-place-reads
-use Rattle.lexical.proofs.part_number.Reads as part-number-reads
-use Rattle.xbm_c.proofs.report_of.Reads as report-of-reads
-use Rattle.xbm_c.proofs.wide.Reads as wide-reads
 
 -- the report in each arm, and the number of a refusal
 module _ (a : NextByte) (d : XbmStreamDecoder) {l : List ℕ} where

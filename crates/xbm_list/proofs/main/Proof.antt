@@ -1,58 +1,42 @@
+-- `xbm_list::main` meets its contract: each return is a law (`list-within`, `listed-size`).
 use borrow.Author.Needs.{needs}
 use Rattle.listing.proofs.Laws.{list-within, listed-size}
 use Rattle.xbm_list.proofs.main.Statement.{statement}
 use Rattle.xbm_list.proofs.main.Tie as tie
-use Rattle.xbm_list.proofs.main.Reads as reads
-use Rattle.xbm_list.proofs.main.Lts as lts
-use Rattle.io.proofs.read_full.Reads as read-full-reads
-use Rattle.io.proofs.write_all.Reads as write-all-reads
-use Rattle.listing.proofs.list.Reads as list-reads
 
--- src/main.rt:5:30
 slice-aggregate-read-full : tie.Need-slice-aggregate-read-full
 slice-aggregate-read-full c = search needs
 
--- src/main.rt:5:9
 read-full-requires : tie.Need-read-full-requires
 read-full-requires c κs = search needs
 
--- src/main.rt:9:30
 array-share-prefix-text : tie.Need-array-share-prefix-text
 array-share-prefix-text c = search needs
 
--- src/main.rt:9:30
 slice-aggregate-list : tie.Need-slice-aggregate-list
 slice-aggregate-list c = search needs
 
--- src/main.rt:9:42
 slice-aggregate-list-2 : tie.Need-slice-aggregate-list-2
 slice-aggregate-list-2 c = search needs
 
--- src/main.rt:9:53
 slice-aggregate-list-3 : tie.Need-slice-aggregate-list-3
 slice-aggregate-list-3 c = search needs
 
--- src/main.rt:9:65
 slice-aggregate-list-4 : tie.Need-slice-aggregate-list-4
 slice-aggregate-list-4 c = search needs
 
--- src/main.rt:9:9
 list-requires : tie.Need-list-requires
 list-requires c κs = search needs
 
--- src/main.rt:10:22
 array-share-prefix-out : tie.Need-array-share-prefix-out
 array-share-prefix-out c = search (list-within, needs)
 
--- src/main.rt:10:22
 slice-aggregate-write-all : tie.Need-slice-aggregate-write-all
 slice-aggregate-write-all c = search (listed-size, needs)
 
--- src/main.rt:10:5
 write-all-requires : tie.Need-write-all-requires
 write-all-requires c κs = search needs
 
--- src/main.rt:3:1
 returns : tie.Need-returns
 returns c = search needs
 
