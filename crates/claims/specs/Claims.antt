@@ -3,12 +3,16 @@
 use mathlib.Core.Path.{_≡_}
 use mathlib.Core.Logic.{_↔_, _⊎_}
 use Prim.Native.Nat.{ℕ, _+_, _-_, _*_, _/_, _≤_, _<_, min}
+use mathlib.Core.Option.{none, some}
 use mathlib.Core.List.{List, [], _++_}
 use lib.ListN.{length, take, getElem?}
+use lib.Dec.{eqb}
 use Rattle.text.specs.declared.TextLocation.{TextLocation}
 use Rattle.text.specs.Place.{byteOf, start, past}
-use Rattle.text.specs.Outcome.{accepted, refused, unplaced}
+use Rattle.text.specs.Outcome.{accepted, refused, unplaced, outcome}
 use Rattle.header.specs.Header.{Head}
+use Rattle.decoder.specs.Data.{item, trailer}
+use Rattle.decoder.specs.Step.{placedAt, stepOf}
 use Rattle.image.specs.Reading.{Reading, reading}
 use Rattle.grammar.specs.Lang.{_·_}
 use Rattle.grammar.specs.Grammar.{Mask, Header, Data, Format}
@@ -22,6 +26,8 @@ use Rattle.claims.specs.Cuts
 use Rattle.claims.specs.Mismatch
 use Rattle.claims.specs.Headless
 use Rattle.claims.specs.AllCells
+use Rattle.claims.specs.Steps
+use Rattle.claims.specs.Steps.{calls, decoderOf}
 
 -- 1. ACCEPTS (demand 2). For every text, name buffer and pixel buffer: the reading accepts with a header exactly if the text is written as the grammar says, for some mask
 -- with that header and with the name buffer's length as the symbol's limit, and the pixel buffer has just the picture's rows (and perhaps a part of one more).
@@ -119,3 +125,14 @@ pub record Kept (text name pixels : List ℕ) (m : Mask) (later : Reading) : Typ
 
 pub keeps : (text name pixels : List ℕ) (m : Mask) → Begun (Header (length name) m) text → Kept text name pixels m (reading text name pixels)
 keeps t name pixels m b = record { cells = AllCells.kept-cells t name pixels m b; rest = AllCells.kept-rest t name pixels m b; size = AllCells.kept-size t name pixels m b }
+
+-- 7. STEPS. Where the text begins with a header, u, and data bytes l, z: after as many calls for the next byte as l has, the decoder has spent them and stands after them,
+-- and the next call gives what the readers of all the rest read there: the next data byte, or after the last the trailer.
+pub record Stepped (text : List ℕ) (m : Mask) (from after : TextLocation) (l : List ℕ) : Type 0 where
+  pub decoder : calls (length l) text (decoderOf m from) ≡ placedAt (decoderOf m from) (length l) after
+  pub next : length l < W m * m .height → stepOf text (calls (length l) text (decoderOf m from)) .answer ≡ outcome (λ b. some b) (item (eqb (length l) 0) text after)
+  pub last : length l ≡ W m * m .height → stepOf text (calls (length l) text (decoderOf m from)) .answer ≡ outcome (λ x. none) (trailer text after)
+
+pub steps : (limit : ℕ) (text : List ℕ) (m : Mask) (u z v l : List ℕ) → text ≡ u ++ (z ++ v) → Header limit m u → Data l z → length l ≤ W m * m .height
+    → Stepped text m (past start u) (past start (u ++ z)) l
+steps lim t m u z v l q h d n = record { decoder = Steps.called-so lim t m u z v l q h d n; next = Steps.next-so lim t m u z v l q h d n; last = Steps.last-so lim t m u z v l q h d n }

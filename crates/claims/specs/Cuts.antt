@@ -35,7 +35,7 @@ use Rattle.claims.specs.Parts.{Parts, front-local, front-firm, front-num
 use Rattle.claims.specs.Accepts.{Fitted, split, picture-text, cells-log, accepts-exactly}
 use Rattle.claims.specs.Came.{many, entries, all, up, entry, came→, →came}
 
-walk-past : (u v : List ℕ) (i : TextLocation) → Walk (u ++ v) i (past i u)
+pub walk-past : (u v : List ℕ) (i : TextLocation) → Walk (u ++ v) i (past i u)
 walk-past [] v i = here
 walk-past (b ∷ u) v i = on (walk-past u v _)
 

@@ -16,3 +16,4 @@ pub mod Vacuous
 pub mod Listings
 pub mod Masks
 pub mod Program
+pub mod Steps
