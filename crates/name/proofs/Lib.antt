@@ -1,2 +1,2 @@
-pub mod Again
+pub mod Lending
 pub mod Laws

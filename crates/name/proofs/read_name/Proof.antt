@@ -1,4 +1,4 @@
--- `read_name` meets its contract: a walk of its MIR, by hand. The buffer is lent again to `store_name`, for a lifetime that is made for the call, and comes back as `store_name` left it (`Again.antt`). It is given on to `as_read` for good, which hands it back as a `&`; `name_of` and `rest_of` make the two parts of that, and the struct is made of them.
+-- `read_name` meets its contract: a walk of its MIR, by hand. The buffer is lent again to `store_name`, for a lifetime that is made for the call, and comes back as `store_name` left it (`Lending.antt`). It is given on to `as_read` for good, which hands it back as a `&`; `name_of` and `rest_of` make the two parts of that, and the struct is made of them.
 -- All that the proof knows of the four is that each meets its contract. A `&[u8]` is Copy: what it owns is had twice before each call.
 -- Assumes nothing.
 use mathlib.Core.Path.{_≡_, refl, ap}
@@ -41,7 +41,7 @@ use denote.Triple.Walked.{says, Stays, stay-none-slice, stay-dropped, walkOf, go
 use denote.Exit.{yes, no}
 use Rattle.name.specs.Parted.{Stored, Parted}
 use Rattle.name.specs.declared.Named.{Named}
-use Rattle.name.proofs.Again.{LentAgain, lends-again, comes-back}
+use Rattle.name.proofs.Lending.{Waiting, lend, regain}
 use Rattle.name.proofs.Laws.{parted}
 use Rattle.name.proofs.Named as T
 use Rattle.name.proofs.Named.Laws as T′
@@ -200,7 +200,7 @@ module _ {M : Type 1} (𝓤 : URA M) (H : Heap 𝓤) (A : Atoms 𝓤) (W : Given
         assigns ! (agg ! (and-then ! (load ! (from ! (stop !)) (look ! 6 refl)) (and-then ! (load ! (from ! (fld ! refl (stop !))) (look-in ! 16 (sub ! 1 refl (whole !)))) (no-more !)))) (from ! (stop !)) (init ! 4 refl (mut-slice-lawful 𝓤 H A W erased κ′ u8 .typed (x γ ys) (v ∷ []) g′ .0)) $
         -- the buffer is lent again, for a lifetime ν of the call
         move ! (22 ∷ 23 ∷ []) $ use2 W (‵ (Buf ys) ⊛ ‵ (flft κ′ q′) ⊛ ‵ Own ⊛ ‵ (flft κ q)) opens $ split ! $ move ! (1 ∷ []) $ split ! $ lft-new ! tt (λ ν. move ! (3 ∷ 1 ∷ []) $
-        use2 W (later (some (λ (δ : GName). ‵ (MutSlice (named 1) (ν ∷ []) u8 .own (x δ ys) (v ∷ [])) ⊛ ‵ (LentAgain u8 κ′ (ν ∷ []) q′ γ b o δ ys)))) (lends-again u8 κ′ (ν ∷ []) q′ γ b o 𝓤 H A W (named 1) (named 1) ys) $ await ! tt $ pick ! (λ δ. split ! $
+        use2 W (later (some (λ (δ : GName). ‵ (MutSlice (named 1) (ν ∷ []) u8 .own (x δ ys) (v ∷ [])) ⊛ ‵ (Waiting κ′ (ν ∷ []) q′ γ b o δ ys)))) (lend κ′ (ν ∷ []) q′ γ b o 𝓤 H A W (named 1) ys) $ await ! tt $ pick ! (λ δ. split ! $
         -- [the buffer lent again; what is kept of it; [ν]; the text and [κ]; _10; …]
         move ! (0 ∷ 2 ∷ 3 ∷ []) $ use3 W (raw (StoreC 𝓤 H A mem run .pre (to-store ν δ)) ⊛ ‵ Own) (goes-store ν δ) $ split ! $
         calls-at ! fm (StoreC 𝓤 H A mem run) known-store (to-store ν δ) (and-then ! (load ! (from ! (stop !)) (look ! 21 refl)) (and-then ! (load ! (from ! (stop !)) (look ! 7 refl)) (no-more !))) (λ u.
@@ -213,7 +213,7 @@ module _ {M : Type 1} (𝓤 : URA M) (H : Heap 𝓤) (A : Atoms 𝓤) (W : Given
         land ! (from ! (stop !)) (init ! 20 refl (uint-lawful 𝓤 H A W w64 .typed n _ is .0)) $ rewrite ! 20 (λ (w : Val). ‵ (fat fullShare (tyInt w64) l₃ 0 w)) (ap only (is .0)) refl $
         -- the lifetime is ended, and the buffer comes back at that list
         move ! (1 ∷ []) $ split ! $ move ! (1 ∷ []) $ split ! $ lft-end ! tt $ move ! (0 ∷ 7 ∷ 4 ∷ []) $
-        use3 W (later (‵ (Buf (ws .1 .0)) ⊛ ‵ (flft κ′ q′))) (comes-back u8 κ′ (ν ∷ []) q′ γ b o 𝓤 H A W (named 1) (named 1) ys δ (ws .1 .0) room l) $ await ! tt $ split ! $
+        use3 W (later (‵ (Buf (ws .1 .0)) ⊛ ‵ (flft κ′ q′))) (regain κ′ (ν ∷ []) q′ γ b o 𝓤 H A W (named 1) ys δ (ws .1 .0) room l) $ await ! tt $ split ! $
         -- [the buffer; [κ′]; true; [κ]; the number; true; the text; _10; …]
         assigns ! (addr ! (from ! (fld ! refl (hop ! (look-in ! 23 (sub ! 0 refl (whole !))) (stop !))))) (from ! (stop !)) (init ! 9 refl (tt, tt)) $
         assigns ! (agg ! (and-then ! (load ! (from ! (stop !)) (look ! 9 refl)) (and-then ! (load ! (from ! (fld ! refl (stop !))) (look-in ! 23 (sub ! 1 refl (whole !)))) (no-more !)))) (from ! (stop !)) (init ! 7 refl (mut-slice-lawful 𝓤 H A W erased κ′ u8 .typed (x γ ys) (v ∷ []) g′ .0)) $
