@@ -116,7 +116,8 @@ fn quick_byte(text: &[u8], place: TextLocation, first: bool, table: &[u8; 256]) 
     )
 }
 
-// The next data byte: the common form at once, anything else by the plain reader.
+// The next data byte: the common form at once, anything else by the plain reader. The plain answer is taken apart and made again, so that
+// it shares no memory with the quick one, which then stays in registers.
 fn next_data(text: &[u8], place: TextLocation, first: bool, table: &[u8; 256]) -> ByteRead
     requires { ⌜ now table ≡ hexTable ⌝ }
     ensures { λ r. ⌜ toldByte r ≡ item first (now (text .entry)) place ⌝ }
