@@ -1,3 +1,4 @@
+-- The definitions and laws of `claims`, by module.
 pub mod Terms
 pub mod Numbers
 pub mod Logs

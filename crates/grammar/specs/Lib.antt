@@ -1,3 +1,4 @@
+-- The definitions and laws of `grammar`, by module.
 pub mod Lang
 pub mod Grammar
 pub mod Bind

@@ -1,3 +1,4 @@
+-- What the proofs of `image` share, by module.
 pub mod Group
 pub mod Stores
 pub mod Paint

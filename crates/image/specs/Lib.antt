@@ -1,3 +1,4 @@
+-- The definitions and laws of `image`, by module.
 pub mod Cells
 pub mod Rows
 pub mod Reading

@@ -1,2 +1,3 @@
+-- What the proofs of `name` share, by module.
 pub mod Lending
 pub mod Laws

@@ -1,1 +1,2 @@
+-- The definitions and laws of `name`, by module.
 pub mod Parted

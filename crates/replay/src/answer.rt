@@ -1,6 +1,5 @@
 // Our answer for a text, told as a record tells the original's.
 ghost use Prim.Native.Nat.{_≤_};
-ghost use lib.ListN.{length as size};
 use crate::buffers::fill;
 use crate::buffers::sum;
 use crate::record::ROOM;
@@ -10,24 +9,8 @@ use header::XbmDecodeError;
 use header::XbmHeaderData;
 use image::ImageRead;
 use image::read_image;
-use lexical::XbmPart;
+use lexical::part_number;
 use text::TextLocation;
-
-// Document 01's number of a part.
-fn part_number(part: XbmPart) -> u64
-    ensures { λ r. ⌜ r ≤ 8 ⌝ }
-{
-    match part {
-        XbmPart::Width => 1,
-        XbmPart::Height => 2,
-        XbmPart::HotspotX => 3,
-        XbmPart::HotspotY => 4,
-        XbmPart::Array => 5,
-        XbmPart::Data => 6,
-        XbmPart::ArrayEnd => 7,
-        XbmPart::Trailing => 8,
-    }
-}
 
 // A number and no more.
 fn silent(number: u64) -> Told {
@@ -58,8 +41,8 @@ fn placed(number: u64, place: TextLocation) -> Told {
 
 fn refused(error: XbmDecodeError) -> Told {
     match error {
-        XbmDecodeError::Parse(part, place) => placed(part_number(part), place),
-        XbmDecodeError::DecodeInteger(part) => silent(10 + part_number(part)),
+        XbmDecodeError::Parse(part, place) => placed(part_number(part) as u64, place),
+        XbmDecodeError::DecodeInteger(part) => silent(10 + part_number(part) as u64),
         XbmDecodeError::ZeroWidth => silent(21),
         XbmDecodeError::ZeroHeight => silent(22),
     }
@@ -94,6 +77,16 @@ fn told_by(image: ImageRead) -> Told {
     }
 }
 
+// The lesser of two.
+fn at_most(n: usize, limit: usize) -> usize
+    ensures { λ r. ⌜ r ≤ limit ⌝ }
+{
+    if n < limit {
+        return n;
+    }
+    limit
+}
+
 // The answer for a text, with these buffers, which are filled first.
 fn asked(text: &[u8], name: &mut [u8], pixels: &mut [u8]) -> Told {
     fill(name);
@@ -108,9 +101,10 @@ fn asked(text: &[u8], name: &mut [u8], pixels: &mut [u8]) -> Told {
 }
 
 // The answer for a text's first bytes, with so many cells, and a name buffer of the original's length.
-pub fn answer(text: &[u8], length: usize, cells: usize) -> Told
-    requires { ⌜ (length ≤ size (now text)) × (cells ≤ 4096) ⌝ }
-{
+// A text that is shorter is lent whole, and no more than all cells are lent.
+pub fn answer(text: &[u8], length: usize, cells: usize) -> Told {
+    let length = at_most(length, text.len());
+    let cells = at_most(cells, ROOM);
     let mut name = [0u8; 256];
     let mut pixels = [0u8; ROOM];
     asked(&text[..length], &mut name, &mut pixels[..cells])

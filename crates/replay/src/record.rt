@@ -63,10 +63,11 @@ fn byte_at(bytes: &[u8], i: usize) -> u64
     0
 }
 
-// The number in the four bytes from i on, the least first.
-pub fn number_at(bytes: &[u8], i: usize) -> u64
-    requires { ⌜ i < 64 ⌝ }
-{
+// The number in the four bytes from i on, the least first, and 0 past a record's end.
+pub fn number_at(bytes: &[u8], i: usize) -> u64 {
+    if i >= RECORD {
+        return 0;
+    }
     let low = byte_at(bytes, i) + byte_at(bytes, i + 1) * 256;
     let high = byte_at(bytes, i + 2) + byte_at(bytes, i + 3) * 256;
     low + high * 65536

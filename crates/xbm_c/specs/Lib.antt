@@ -1,3 +1,4 @@
+-- The definitions and laws of `xbm_c`, by module.
 pub mod Report
 pub mod Next
 pub mod Examples
