@@ -18,3 +18,4 @@ pub mod Listings
 pub mod Masks
 pub mod Program
 pub mod Steps
+pub mod Printed

@@ -33,7 +33,7 @@ use Rattle.claims.specs.Accepts.{whole-fitted}
 
 -- ---- a run of j + 1 data bytes is a run of j and one more
 
-apart : (j : ℕ) (f g : Bool) (t : List ℕ) (i : TextLocation) (l : List ℕ) (e : TextLocation) → (j ≡ 0 → g ≡ f) → (0 < j → g ≡ false) → items (suc j) f t i ≡ ok l e
+pub apart : (j : ℕ) (f g : Bool) (t : List ℕ) (i : TextLocation) (l : List ℕ) (e : TextLocation) → (j ≡ 0 → g ≡ f) → (0 < j → g ≡ false) → items (suc j) f t i ≡ ok l e
     → (k : List ℕ) × (n : TextLocation) × (b : ℕ) × (items j f t i ≡ ok k n) × (item g t n ≡ ok b e)
 unfolding items give
 apart zero f g t i l e hz hs q = bind-case (item f) _ t i q (λ b n u v. bind-case (give []) _ t n v (λ a o x y. ([], i, b, refl, rw (hz refl) (u ∙ ap (λ (c : TextLocation). ok b c) (cc)))))
@@ -42,7 +42,7 @@ apart (suc j) f g t i l e hz hs q =
     let (k, d, c, p, s) = apart j false g t n a o (λ w. hs (omega arith)) (λ w. hs (omega arith)) x in
     (b ∷ k, d, c, bind-ok (item f) _ t i b n u ∙ bind-ok (items j false) _ t n k d p, s ∙ ap (λ (w : TextLocation). ok c w) z))))
 
-joined : (j : ℕ) (f g : Bool) (t : List ℕ) (i : TextLocation) (k : List ℕ) (n : TextLocation) (b : ℕ) (e : TextLocation) → (j ≡ 0 → g ≡ f) → (0 < j → g ≡ false) → items j f t i ≡ ok k n → item g t n ≡ ok b e
+pub joined : (j : ℕ) (f g : Bool) (t : List ℕ) (i : TextLocation) (k : List ℕ) (n : TextLocation) (b : ℕ) (e : TextLocation) → (j ≡ 0 → g ≡ f) → (0 < j → g ≡ false) → items j f t i ≡ ok k n → item g t n ≡ ok b e
     → items (suc j) f t i ≡ ok (k ++ b ∷ []) e
 unfolding items give
 joined zero f g t i k n b e hz hs p q = let x : [] ≡ k = cc in let y : i ≡ n = cc in
@@ -53,12 +53,12 @@ joined (suc j) f g t i k n b e hz hs p q =
     ∙ bind-ok (items (suc j) false) _ t o (l ++ b ∷ []) e (joined j false g t o l n b e (λ w. hs (omega arith)) (λ w. hs (omega arith)) (x ∙ ap (λ (c : TextLocation). ok l c) w) q)
     ∙ ap (λ (l : List ℕ). ok (l ++ b ∷ []) e) z)))
 
-zero-test : (n : ℕ) → (n ≡ 0 → eqb n 0 ≡ true) × (0 < n → eqb n 0 ≡ false)
+pub zero-test : (n : ℕ) → (n ≡ 0 → eqb n 0 ≡ true) × (0 < n → eqb n 0 ≡ false)
 zero-test n = ((λ q. eq-eqb n 0 q), λ h. ne-eqb n 0 (λ q. omega arith))
 
 -- ---- what is read into too few rows, and into too many
 
-whole-few : (w h n : ℕ) (t : List ℕ) (i : TextLocation) → n / w < h → whole w h n t i ≡ (items (rowBytes w * (n / w)) true >>= λ l. item (eqb (rowBytes w * (n / w)) 0) >> mismatch) t i
+pub whole-few : (w h n : ℕ) (t : List ℕ) (i : TextLocation) → n / w < h → whole w h n t i ≡ (items (rowBytes w * (n / w)) true >>= λ l. item (eqb (rowBytes w * (n / w)) 0) >> mismatch) t i
 unfolding whole
 whole-few w h n t i q = let x : min (n / w) h ≡ n / w = omega arith in rw (ne-eqb (n / w) h (λ e. omega arith), lt-ltb (n / w) h q, x)
 

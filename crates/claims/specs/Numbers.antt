@@ -50,13 +50,13 @@ module _ {lo hi x y : ℕ} where
   unfolding give
   give-numbered a = record { numbered = λ t i. tt }
 
-  need-numbered : {A : Type 0} (c : ℕ) (o : Option A) → within x y c ≡ true → Numbered lo hi x y (need c o)
+  pub need-numbered : {A : Type 0} (c : ℕ) (o : Option A) → within x y c ≡ true → Numbered lo hi x y (need c o)
   unfolding need
   need-numbered c none s = record { numbered = λ t i. s }
   need-numbered c (some a) s = record { numbered = λ t i. tt }
 
   -- a run that halts at no byte is not refused
-  skip-numbered : (class : ℕ → Bool) → Numbered lo hi x y (skip class)
+  pub skip-numbered : (class : ℕ → Bool) → Numbered lo hi x y (skip class)
   unfolding skip run
   skip-numbered class = record { numbered = λ t i. go (rest t i) i }
     where
@@ -70,7 +70,7 @@ module _ {lo hi x y : ℕ} where
           two false h = tt
 
   module _ (c : ℕ) (s : within lo hi c ≡ true) where
-    want-numbered : {A : Type 0} (o : Option A) → Numbered lo hi x y (want c o)
+    pub want-numbered : {A : Type 0} (o : Option A) → Numbered lo hi x y (want c o)
     unfolding want
     want-numbered none = record { numbered = λ t i. s }
     want-numbered (some a) = record { numbered = λ t i. tt }
@@ -96,7 +96,7 @@ module _ {lo hi x y : ℕ} where
         go z [] i = judge-good lo hi x y c s (fin z) i
         go z (b ∷ l) i = two b l i (step z b) (λ w. go w l (after b i))
 
-    fork-numbered : {A : Type 0} (v : ℕ) {p : Reader A} (w : ℕ) {q : Reader A} → Numbered lo hi x y p → Numbered lo hi x y q → Numbered lo hi x y (fork c v p w q)
+    pub fork-numbered : {A : Type 0} (v : ℕ) {p : Reader A} (w : ℕ) {q : Reader A} → Numbered lo hi x y p → Numbered lo hi x y q → Numbered lo hi x y (fork c v p w q)
     unfolding fork
     fork-numbered v {p} w {q} hp hq = record { numbered = λ t i. go t i (rest t i) }
       where
@@ -109,7 +109,7 @@ module _ {lo hi x y : ℕ} where
         go t i [] = s
         go t i (b ∷ l) = two t i (after b i) (eqb b v) (eqb b w)
 
-    eot-numbered : Numbered lo hi x y (eot c)
+    pub eot-numbered : Numbered lo hi x y (eot c)
     unfolding eot
     eot-numbered = record { numbered = λ t i. go i (rest t i) }
       where
@@ -117,28 +117,28 @@ module _ {lo hi x y : ℕ} where
         go i [] = tt
         go i (b ∷ l) = s
 
-    byte-numbered : (class : ℕ → Bool) → Numbered lo hi x y (byte c class)
+    pub byte-numbered : (class : ℕ → Bool) → Numbered lo hi x y (byte c class)
     unfolding byte
     byte-numbered class = one-numbered _
 
-    fixed-numbered : (w : List ℕ) → Numbered lo hi x y (fixed c w)
+    pub fixed-numbered : (w : List ℕ) → Numbered lo hi x y (fixed c w)
     unfolding fixed
     fixed-numbered [] = give-numbered tt
     fixed-numbered (b ∷ w) = bind-numbered (byte-numbered (is b)) (λ a. fixed-numbered w)
 
-    gap-numbered : Numbered lo hi x y (gap c)
+    pub gap-numbered : Numbered lo hi x y (gap c)
     unfolding gap
     gap-numbered = bind-numbered (byte-numbered _) (λ a. skip-numbered _)
 
-    lineEnd-numbered : Numbered lo hi x y (lineEnd c)
+    pub lineEnd-numbered : Numbered lo hi x y (lineEnd c)
     unfolding lineEnd
     lineEnd-numbered = bind-numbered (skip-numbered _) (λ a. byte-numbered _)
 
-    leading-numbered : (fresh : Bool) → Numbered lo hi x y (leading c fresh)
+    pub leading-numbered : (fresh : Bool) → Numbered lo hi x y (leading c fresh)
     unfolding leading
     leading-numbered fresh = run-numbered lead (λ s. none) fresh
 
-    token-numbered : (ends : ℕ → Bool) (lim : ℕ) → Numbered lo hi x y (token ends c lim)
+    pub token-numbered : (ends : ℕ → Bool) (lim : ℕ) → Numbered lo hi x y (token ends c lim)
     unfolding token
     token-numbered ends lim = run-numbered (upTo ends lim) (λ w. some w) []
 
@@ -147,11 +147,11 @@ module _ {lo hi x y : ℕ} where
     digits-numbered zero v = give-numbered v
     digits-numbered (suc n) v = bind-numbered (one-numbered hexv) (λ d. digits-numbered n _)
 
-    hexUnit-numbered : (n : ℕ) → Numbered lo hi x y (hexUnit c n)
+    pub hexUnit-numbered : (n : ℕ) → Numbered lo hi x y (hexUnit c n)
     unfolding hexUnit hexStart hexDigit
     hexUnit-numbered n = bind-numbered (bind-numbered (fixed-numbered _) (λ a. byte-numbered _)) (λ a. bind-numbered (one-numbered hexv) (λ d. digits-numbered n d))
 
-ruleset numbers = (bind-numbered, give-numbered, need-numbered, want-numbered, byte-numbered, skip-numbered, fixed-numbered, gap-numbered, lineEnd-numbered, leading-numbered, token-numbered, hexUnit-numbered, fork-numbered, eot-numbered)
+pub ruleset numbers = (bind-numbered, give-numbered, need-numbered, want-numbered, byte-numbered, skip-numbered, fixed-numbered, gap-numbered, lineEnd-numbered, leading-numbered, token-numbered, hexUnit-numbered, fork-numbered, eot-numbered)
 
 -- ---- the format's parts
 
@@ -185,6 +185,10 @@ module _ {lo hi x y : ℕ} where
   pub closing-numbered : within lo hi 7 ≡ true → Numbered lo hi x y closing
   unfolding closing brace
   closing-numbered s = search numbers depth 30 fits 3000
+
+  pub tail-numbered : within lo hi 8 ≡ true → Numbered lo hi x y tail
+  unfolding tail
+  tail-numbered s = search numbers
 
   pub trailer-numbered : within lo hi 7 ≡ true → within lo hi 8 ≡ true → Numbered lo hi x y trailer
   unfolding trailer tail

@@ -1,0 +1,202 @@
+-- The earliest place of a refusal in the data bytes and in the closing: 6 and 7.
+use mathlib.Core.Path.{_≡_, refl, sym, ap, _∙_}
+use mathlib.Core.Logic.{_⊎_, inl, inr}
+use Prim.Native.Nat.{ℕ, zero, suc, _+_, _*_, _/_, _≤_, _<_}
+use native.Mathlib.Omega.{arith}
+use mathlib.Core.Bool.{Bool, true, false}
+use mathlib.Core.List.{List, [], _∷_, _++_, append-assoc}
+use lib.ListN.{length, take, drop}
+use lib.Dec.{eqb, ltb}
+use Rattle.text.specs.declared.TextLocation.{TextLocation}
+use Rattle.text.specs.Place.{byteOf, rest, start, past}
+use Rattle.text.specs.Reader.{Result, ok, stop, bad, then, Reader, _>>=_, _>>_}
+use Rattle.text.specs.Leaf.{give}
+use Rattle.text.specs.Outcome.{refused}
+use Rattle.header.specs.Header.{Head, header}
+use Rattle.decoder.specs.Data.{item, items, closing, tail, trailer}
+use Rattle.image.specs.Rows.{count, mismatch, ending, whole}
+use Rattle.image.specs.Reading.{picture, reading}
+use Rattle.grammar.specs.Lang.{Lang, _·_}
+use Rattle.grammar.specs.Grammar.{Mask, Header, Data, Closing}
+use Rattle.grammar.specs.Bind.{bind-case, bind-ok, bind-stop}
+use Rattle.grammar.specs.Fits.{Follow, Any, At, Fits}
+use Rattle.grammar.specs.Devices.{headOf, made}
+use Rattle.grammar.specs.Headers.{header-exactly}
+use Rattle.grammar.specs.Exact.{data-fits, closing-fits}
+use Rattle.claims.specs.Terms.{Begun}
+use Rattle.claims.specs.Numbers.{Numbered, numbers, header-numbered, items-numbered, item-numbered, trailer-numbered, closing-numbered, bind-numbered, give-numbered, placed-number}
+use Rattle.claims.specs.Mismatch.{zero-test}
+use Rattle.refusals.specs.Stages.{stop-first, stop-second, at-both, at-parts, read-at, begun}
+use Rattle.places.specs.Saving.{Late, Open}
+use Rattle.places.specs.Earliest.{bind-any, items-open, closing-open}
+use Rattle.places.specs.EarliestRows.{Savable, never, Never, told-picture, at-line}
+
+pub header-fits : (lim : ℕ) (h : Head) → Fits (header lim) h (Unit {0}) (Header lim (made h [])) Any
+header-fits lim h = record {
+  to = λ t i e q. (tt, header-exactly lim (made h []) t i e .0 q);
+  from = λ t i w r x d l f. header-exactly lim (made h []) t i (past i w) .1 (w, r, d, l, f, refl);
+}
+
+-- the header and k h data bytes
+module _ (lim : ℕ) (k : Head → ℕ) where
+  abbrev paired : Head → List ℕ → Reader (Head × List ℕ)
+  paired h l = give (h, l)
+
+  abbrev pairs : Head → Reader (Head × List ℕ)
+  pairs h = items (k h) true >>= paired h
+
+  unfoldable both : Reader (Head × List ℕ)
+  both = header lim >>= pairs
+
+  abbrev Both : Head × List ℕ → Lang
+  Both a w = (length (a .1) ≡ k (a .0)) × (Header lim (made (a .0) []) · Data (a .1)) w
+
+  both-ok : (t : List ℕ) (i : TextLocation) (h : Head) (m : TextLocation) (l : List ℕ) (e : TextLocation) → header lim t i ≡ ok h m → items (k h) true t m ≡ ok l e → both t i ≡ ok (h, l) e
+  unfolding both give
+  both-ok t i h m l e q r = bind-ok (header lim) pairs t i h m q ∙ bind-ok (items (k h) true) (paired h) t m l e r
+
+  both-fits : (a : Head × List ℕ) → Fits both a (Unit {0}) (Both a) Any
+  unfolding both give Any
+  both-fits (h, l) = record {
+    to = λ t i e q. bind-case (header lim) pairs t i q (λ g m q1 r1. bind-case (items (k g) true) (paired g) t m r1 (λ v n q2 r2. there t i e g m v n q1 q2 r2));
+    from = λ t i w r x d (y, z) f. back t i w r d y z;
+  }
+    where
+      there : (t : List ℕ) (i e : TextLocation) (g : Head) (m : TextLocation) (v : List ℕ) (n : TextLocation) → header lim t i ≡ ok g m → items (k g) true t m ≡ ok v n → _≡_ {A = Result (Head × List ℕ)} (ok (g, v) n) (ok (h, l) e) → Unit {0} × At (Both (h, l)) (λ r. Unit {0}) t i e
+      there t i e g m v n q1 q2 r =
+          let a : _≡_ {A = Head × List ℕ} (g, v) (h, l) = cc in
+          let b : g ≡ h = ap (λ (x : Head × List ℕ). x .0) a in
+          let c : v ≡ l = ap (λ (x : Head × List ℕ). x .1) a in
+          let o : n ≡ e = cc in
+          let p : header lim t i ≡ ok h m = q1 ∙ ap (λ (x : Head). ok x m) b in
+          let s : items (k h) true t m ≡ ok l e = ap (λ (x : Head). items (k x) true t m) (sym b) ∙ q2 ∙ ap (λ (x : List ℕ). ok x n) c ∙ ap (λ (x : TextLocation). ok l x) o in
+          let (y, z) = data-fits (k h) l .to t m e s in
+          let (w, u, d, f, x, j) = at-both (Header lim (made h [])) (Data l) t i m e (header-exactly lim (made h []) t i m .0 p) z in
+          (tt, (w, u, d, (y, f), tt, j))
+
+      back : (t : List ℕ) (i : TextLocation) (w r : List ℕ) → rest t i ≡ w ++ r → length l ≡ k h → (Header lim (made h []) · Data l) w → (header lim >>= pairs) t i ≡ ok (h, l) (past i w)
+      back t i w r d y z =
+          let (m, u, v) = at-parts (Header lim (made h [])) (Data l) t i (past i w) (w, r, d, z, tt, refl) in
+          let p : header lim t i ≡ ok h m = header-exactly lim (made h []) t i m .1 u in
+          let s : items (k h) true t m ≡ ok l (past i w) = read-at (data-fits (k h) l) t m (past i w) .1 (y, v) in
+          bind-ok (header lim) pairs t i h m p ∙ bind-ok (items (k h) true) (paired h) t m l (past i w) s
+
+-- a kind of text that another is a kind of
+savable-as : {K L : Lang} (t : List ℕ) (c : ℕ) (e : TextLocation) → ((w : List ℕ) → K w → L w) → Savable t c e K → Savable t c e L
+savable-as t c e f s = let (w, r, q, k) = s .whole in record { kept = s .kept; cut = s .cut; others = s .others; whole = (w, r, q, f w k) }
+
+both-closing : (lim : ℕ) (k : Head → ℕ) (h : Head) (l w : List ℕ) → (Both lim k (h, l) · Closing) w → (Header lim (made h []) · Data l · Closing) w
+unfolding _·_
+both-closing lim k h l w (u, v, q, (x, (a, b, o, y, z)), c) = (a, b ++ v, q ∙ ap (λ (j : List ℕ). j ++ v) o ∙ append-assoc a b v, y, (b, v, refl, z, c))
+
+module _ (text name pixels : List ℕ) (p : TextLocation) where
+  abbrev lim : ℕ
+  lim = length name
+
+  abbrev pub many : Head → ℕ
+  many h = count (h .width) (h .height) (length pixels)
+
+  abbrev pub tests : Head → List ℕ → Reader (List ℕ)
+  tests h = ending (eqb (length pixels / h .width) (h .height)) (ltb (length pixels / h .width) (h .height)) (eqb (many h) 0)
+
+  -- where the header ends
+  pub headed : (c : ℕ) → 6 ≤ c → reading text name pixels .answer ≡ refused c p → (h : Head) × (m : TextLocation) × (header lim text start ≡ ok h m) × ((items (many h) true >>= tests h) text m ≡ stop c p)
+  unfolding picture whole
+  headed c l q =
+      let x : (header lim >>= pictured) text start ≡ stop c p = told-picture text name pixels c p q in
+      let (h, m, u, v) = stop-second (header lim) pictured c text start (header-numbered lim) (λ a b. omega arith) .0 (p, x) in
+      (h, m, u, stop-first (items (many h) true >>= tests h) (pair h) c text m (pair-numbered h) (λ a b. omega arith) p .0 (sym (bind-ok (header lim) pictured text start h m u) ∙ x))
+    where
+      pair : Head → List ℕ → Reader (Head × List ℕ)
+      pair h l = give (h, l)
+
+      pair-numbered : (h : Head) (l : List ℕ) → Numbered 1 0 1 0 (pair h l)
+      pair-numbered h l = give-numbered (h, l)
+
+      pictured : Head → Reader (Head × List ℕ)
+      pictured h = (items (many h) true >>= tests h) >>= pair h
+
+  tail-8 : Numbered 8 8 1 0 tail
+  unfolding tail
+  tail-8 = search numbers
+
+  -- 7 comes from the closing
+  from-closing : (e few f : Bool) (l : List ℕ) (m : TextLocation) → ending e few f l text m ≡ stop 7 p → closing text m ≡ stop 7 p
+  unfolding trailer
+  from-closing true few f l m q = stop-first closing (λ a. tail) 7 text m (λ a. tail-8) (λ a b. omega arith) p .0 (stop-first (closing >> tail) (λ a. give l) 7 text m (λ a. give-numbered {lo = 1} {hi = 0} {x = 1} {y = 0} l) (λ a b. omega arith) p .0 q)
+  from-closing false true f l m q = absurd (omega (arith, placed-number (bind-numbered (item-numbered {lo = 6} {hi = 6} {x = 31} {y = 31} f refl) (λ b. none-numbered)) text m 7 p q))
+    where
+      none-numbered : Numbered 6 6 31 31 mismatch
+      none-numbered = search numbers
+  from-closing false false f l m q = stop-first closing (λ a. tail) 7 text m (λ a. tail-8) (λ a b. omega arith) p .0 (stop-first (closing >> tail) (λ a. mismatch) 7 text m (λ a. none-numbered) (λ a b. omega arith) p .0 q)
+    where
+      none-numbered : Numbered 1 0 31 31 mismatch
+      none-numbered = search numbers
+
+  -- 7: the header and the data bytes stand there, and a closing can after them
+  pub earliest-7 : reading text name pixels .answer ≡ refused 7 p → (h : Head) × (l : List ℕ) × (length l ≡ many h) × Savable text 7 p (Header lim (made h []) · Data l · Closing)
+  earliest-7 q =
+      let (h, m, u, x) = headed 7 (omega arith) q in
+      let (l, n, v, y) = stop-second (items (many h) true) (tests h) 7 text m (items-numbered {lo = 6} {hi = 6} {x = 1} {y = 0} (many h) true refl) (λ a b. omega arith) .0 (p, x) in
+      let z : closing text n ≡ stop 7 p = from-closing (eqb (length pixels / h .width) (h .height)) (ltb (length pixels / h .width) (h .height)) (eqb (many h) 0) l n (sym (bind-ok (items (many h) true) (tests h) text m l n v) ∙ x) in
+      let (b, o, s) = never (at-line {E = Never} (both lim many) (λ a. closing) (λ a b. give a) (Both lim many) (λ a. Unit {0}) (λ b. Unit {0}) (λ a b. Closing) (both-fits lim many) (λ a w k. tt) (λ a s b. closing-fits) (λ a s. bind-any closing-open) text 7 p (h, l) n (both-ok lim many text start h m l n u v) z) in
+      (h, l, data-fits (many h) l .to text m n v .0, savable-as text 7 p (both-closing lim many h l) s)
+
+  -- where k data bytes are not read, k can still stand there
+  still : (k : ℕ) (h : Head) (m : TextLocation) → header lim text start ≡ ok h m → items k true text m ≡ stop 6 p → (l : List ℕ) × (length l ≡ k) × Savable text 6 p (Header lim (made h []) · Data l)
+  still k h m u x =
+      never (at-line {E = Never} (header lim) (λ g. items k true) (λ g l. give l) (λ g. Header lim (made g [])) (λ g. Unit {0}) (λ l. length l ≡ k) (λ g l. Data l) (header-fits lim) (λ a w k. tt) (λ g s l. data-fits k l) (λ g s. items-open k true) text 6 p h m u x)
+
+  -- 6 comes from those bytes, or, with too few rows, from the one after them
+  source-6 : reading text name pixels .answer ≡ refused 6 p → (h : Head) × (m : TextLocation) × (header lim text start ≡ ok h m) × ((items (many h) true text m ≡ stop 6 p) ⊎ ((l : List ℕ) × (n : TextLocation) × (items (many h) true text m ≡ ok l n) × (item (eqb (many h) 0) text n ≡ stop 6 p)))
+  unfolding _>>=_
+  source-6 q =
+      let (h, m, u, x) = headed 6 (omega arith) q in
+      (h, m, u, go h m (items (many h) true text m) refl x)
+    where
+      none-numbered : Numbered 1 0 31 31 mismatch
+      none-numbered = search numbers
+
+      trailer-7 : {A : Type 0} {f : Unit {0} → Reader A} → ((a : Unit {0}) → Numbered 7 8 31 31 (f a)) → Numbered 7 8 31 31 (trailer >>= f)
+      trailer-7 g = bind-numbered trailer-78 g
+        where
+          trailer-78 : Numbered 7 8 31 31 trailer
+          trailer-78 = search (numbers, trailer-numbered)
+
+      by : (e few f : Bool) (l : List ℕ) (n : TextLocation) → ending e few f l text n ≡ stop 6 p → item f text n ≡ stop 6 p
+      by true few f l n x = absurd (omega (arith, placed-number (trailer-7 (λ a. give-numbered l)) text n 6 p x))
+      by false true f l n x = stop-first (item f) (λ b. mismatch) 6 text n (λ b. none-numbered) (λ a b. omega arith) p .0 x
+      by false false f l n x = absurd (omega (arith, placed-number (trailer-7 (λ a. rest-31)) text n 6 p x))
+        where
+          rest-31 : Numbered 7 8 31 31 mismatch
+          rest-31 = search numbers
+
+      go : (h : Head) (m : TextLocation) (r : Result (List ℕ)) → items (many h) true text m ≡ r → then r (λ l e. tests h l text e) ≡ stop 6 p → (items (many h) true text m ≡ stop 6 p) ⊎ ((l : List ℕ) × (n : TextLocation) × (items (many h) true text m ≡ ok l n) × (item (eqb (many h) 0) text n ≡ stop 6 p))
+      go h m (ok l n) u x = inr (l, n, u, by (eqb (length pixels / h .width) (h .height)) (ltb (length pixels / h .width) (h .height)) (eqb (many h) 0) l n x)
+      go h m (stop d n) u x = inl (u ∙ cc)
+      go h m (bad d n) u x = let z : _≡_ {A = ℕ} 0 1 = cc in absurd (omega arith)
+
+  -- one more is refused: so many and one are
+  one-more : (k : ℕ) (f g : Bool) (i : TextLocation) (l : List ℕ) (n : TextLocation) → (k ≡ 0 → g ≡ f) → (0 < k → g ≡ false) → items k f text i ≡ ok l n → item g text n ≡ stop 6 p → items (suc k) f text i ≡ stop 6 p
+  unfolding items give
+  one-more zero f g i l n a b q x =
+      let z : i ≡ n = cc in
+      bind-stop (item f) _ text i 6 p (ap (λ (y : Bool). item y text i) (sym (a refl)) ∙ ap (item g text) z ∙ x)
+  one-more (suc k) f g i l n a b q x = bind-case (item f) (λ b. items k false >>= λ l. give (b ∷ l)) text i q (λ c j q1 q2. bind-case (items k false) (λ l. give (c ∷ l)) text j q2 (λ v o q3 q4. last c j q1 (one-more k false g j v n (λ y. b (omega arith)) (λ y. b (omega arith)) (q3 ∙ ap (λ (y : TextLocation). ok v y) (ends c v o q4)) x)))
+    where
+      ends : (c : ℕ) (v : List ℕ) (o : TextLocation) → _≡_ {A = Result (List ℕ)} (ok (c ∷ v) o) (ok l n) → o ≡ n
+      ends c v o z = cc
+
+      last : (c : ℕ) (j : TextLocation) → item f text i ≡ ok c j → items (suc k) false text j ≡ stop 6 p → (item f >>= λ b. items (suc k) false >>= λ l. give (b ∷ l)) text i ≡ stop 6 p
+      last c j q1 z = bind-ok (item f) (λ b. items (suc k) false >>= λ l. give (b ∷ l)) text i c j q1 ∙ bind-stop (items (suc k) false) (λ l. give (c ∷ l)) text j 6 p z
+
+  -- 6: the data bytes that are read can all still stand there: those of the buffer's rows, and with too few rows one more
+  pub earliest-6 : reading text name pixels .answer ≡ refused 6 p → (h : Head) × (l : List ℕ) × ((length l ≡ many h) ⊎ (length l ≡ suc (many h))) × Savable text 6 p (Header lim (made h []) · Data l)
+  earliest-6 q = let (h, m, u, x) = source-6 q in go h m u x
+    where
+      Both6 : Type 0
+      Both6 = (h : Head) × (l : List ℕ) × ((length l ≡ many h) ⊎ (length l ≡ suc (many h))) × Savable text 6 p (Header lim (made h []) · Data l)
+
+      go : (h : Head) (m : TextLocation) → header lim text start ≡ ok h m → (items (many h) true text m ≡ stop 6 p) ⊎ ((l : List ℕ) × (n : TextLocation) × (items (many h) true text m ≡ ok l n) × (item (eqb (many h) 0) text n ≡ stop 6 p)) → Both6
+      go h m u (inl x) = let (l, y, s) = still (many h) h m u x in (h, l, inl y, s)
+      go h m u (inr (v, n, x, z)) = let (l, y, s) = still (suc (many h)) h m u (one-more (many h) true (eqb (many h) 0) m v n (λ e. zero-test (many h) .0 e) (λ e. zero-test (many h) .1 e) x z) in (h, l, inr y, s)

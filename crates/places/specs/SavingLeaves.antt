@@ -1,0 +1,221 @@
+-- The leaves and the lexical rules can be saved.
+use mathlib.Core.Path.{_≡_, refl, sym, ap, _∙_}
+use mathlib.Core.Logic.{_⊎_, inl, inr}
+use Prim.Native.Nat.{ℕ, zero, suc, _+_, _≤_, _<_}
+use native.Mathlib.Omega.{arith}
+use mathlib.Core.Option.{Option, none, some}
+use mathlib.Core.Bool.{Bool, true, false}
+use mathlib.Core.List.{List, [], _∷_, _++_}
+use lib.ListN.{length, take, drop}
+use lib.Dec.{eqb, leb, ltb}
+use native.Mathlib.Decide.{decLt}
+use borrow.Author.Tests.{leb-true, eq-eqb, eqb-true}
+use Rattle.text.specs.declared.TextLocation.{TextLocation}
+use Rattle.text.specs.Place.{pick, byteOf, rest, after, past}
+use Rattle.text.specs.Rest.{here, rest-agree}
+use Rattle.text.specs.Reader.{Result, ok, stop, bad, endOf, then, Reader, _>>=_, _>>_, Same, Local, Firm, Grows, Settled, bind-local}
+use Rattle.text.specs.Leaf.{give, one, first, judge, eot, endIf, fork, forkOf, choose, Alike, nils, heads, alike, give-local, one-local, one-firm, one-grows, eot-local, fork-local, fork-firm, fork-grows}
+use Rattle.lexical.specs.Lexical.{is, when, byte, skip, fixed, gap, lineEnd, leading, isBlank, isLoose, skip-local, locals}
+use Rattle.grammar.specs.Lang.{Lang, Word, Many, All}
+use Rattle.grammar.specs.Grammar.{blank, space, solid}
+use Rattle.grammar.specs.Fits.{Follow, Any, End, Off, Next, Fits}
+use Rattle.grammar.specs.Pieces.{one-fits, skip-fits, blanks-fits, loose-fits, end-fits, blank-is, solid-blank}
+use Rattle.claims.specs.Numbers.{Numbered, skip-numbered, placed-number}
+use Rattle.places.specs.Saving.{Good, Way, Cut, taken, ended, peeked, Saved, Late, same-trans, Open, bind-open, fits-keep, word-way}
+
+pub no-growth : {A : Type 0} {p : Reader A} → Grows p → (t : List ℕ) (i : TextLocation) (a : A) → p t i ≡ ok a i → ⊥
+no-growth {A} {p} g t i a q =
+    let h : Settled {A = A} (ok a i) → byteOf i < byteOf i = rw q at (g .grows t i) in
+    omega (arith, h tt)
+
+pub next-off : (g : ℕ → Bool) (x : ℕ) → g x ≡ false → (r : List ℕ) → Next x r → Off g r
+unfolding Next Off
+next-off g x q [] k = absurd k
+next-off g x q (y ∷ r) k = rw k q
+
+pub give-open : {E : Late} {A : Type 0} (a : A) {F G : Follow} → ((r : List ℕ) → F r → G r) → Open E (give a) F G
+unfolding give
+give-open a k = record {
+  local = give-local a;
+  keeps = λ t u i b m q s h. q;
+  empty = λ t i b q h. k (rest t i) h;
+  can = λ t i g. record { text = t; value = a; end = i; same = λ j l. refl; far = omega arith; reach = here; inside = g .inside; reads = λ u s h. refl; begins = λ z u s h. k (rest u i) h };
+  saves = λ t i c e g q. (let z : _≡_ {A = ℕ} 0 1 = cc in absurd (omega arith));
+}
+
+pub one-open : {E : Late} {A : Type 0} (c : ℕ) (g : ℕ → Option A) (x : ℕ) (a : A) {F G : Follow} → g x ≡ some a → ((r : List ℕ) → G (x ∷ r)) → Open E (one c g) F G
+unfolding one Any after
+one-open {E} {A} c g x a {F} {G} q k = record {
+  local = one-local c g;
+  keeps = fits-keep {F = F} (λ b. Unit {0}) W (one-fits c g) (λ r h. tt);
+  empty = λ t i b z h. absurd (no-growth (one-grows c g) t i b z);
+  can = able;
+  saves = λ t i d e o z. inl (go t i d e o (rest t i) refl z);
+}
+  where
+    W : A → Lang
+    W b w = (y : ℕ) × (w ≡ y ∷ []) × (g y ≡ some b)
+
+    able : (t : List ℕ) (i : TextLocation) → Good t i → Way (one c g) F G t i (byteOf i)
+    able t i o = word-way (λ b. Unit {0}) W (one-fits c g) (λ r h. tt) a (x ∷ []) tt (x, refl, q) (λ r h. k r) t i o
+
+    two : (t : List ℕ) (i : TextLocation) (d : ℕ) (e : TextLocation) → Good t i → (b : ℕ) (v : Option A) → judge c v (after b i) ≡ stop d e → Saved (one c g) F G t i d e
+    two t i d e o b (some y) z = let n : _≡_ {A = ℕ} 0 1 = cc in absurd (omega arith)
+    two t i d e o b none z = let n : after b i ≡ e = cc in (byteOf i, omega arith, taken (omega (arith, ap byteOf n)), able t i o)
+
+    go : (t : List ℕ) (i : TextLocation) (d : ℕ) (e : TextLocation) → Good t i → (l : List ℕ) → rest t i ≡ l → first c g l i ≡ stop d e → Saved (one c g) F G t i d e
+    go t i d e o [] y z = let n : i ≡ e = cc in (byteOf i, omega arith, ended (ap byteOf n) (rw n at y), able t i o)
+    go t i d e o (b ∷ l) y z = two t i d e o b (g b) z
+
+pub byte-open : {E : Late} (c : ℕ) (class : ℕ → Bool) (x : ℕ) {F G : Follow} → class x ≡ true → ((r : List ℕ) → G (x ∷ r)) → Open E (byte c class) F G
+unfolding byte
+byte-open c class x q k = one-open c _ x tt (rw q) k
+
+pub skip-open : {E : Late} (class : ℕ → Bool) {F : Follow} → ((r : List ℕ) → F r → Off class r) → Open E (skip class) F F
+unfolding Many
+skip-open class {F} k = record {
+  local = skip-local class;
+  keeps = fits-keep {F = F} (λ b. Unit {0}) (λ b. Many class) (λ b. skip-fits class) k;
+  empty = λ t i a q h. h;
+  can = λ t i g. word-way (λ b. Unit {0}) (λ b. Many class) (λ b. skip-fits class) k tt [] tt tt (λ r h. h) t i g;
+  saves = λ t i c e g q. absurd (omega (arith, placed-number (skip-numbered {lo = 1} {hi = 0} {x = 1} {y = 0} class) t i c e q));
+}
+
+-- ---- lexical rules
+
+pub fixed-any : {E : Late} (c : ℕ) (w : List ℕ) {F : Follow} → Open E (fixed c w) F Any
+unfolding fixed Any
+fixed-any c [] = give-open tt (λ r h. tt)
+fixed-any c (x ∷ w) = bind-open (byte-open c (is x) x (eq-eqb x x refl) (λ r. tt)) (λ a. fixed-any c w)
+
+pub fixed-open : {E : Late} (c x : ℕ) (w : List ℕ) {F G : Follow} → ((r : List ℕ) → G (x ∷ r)) → Open E (fixed c (x ∷ w)) F G
+unfolding fixed
+fixed-open c x w k = bind-open (byte-open c (is x) x (eq-eqb x x refl) k) (λ a. fixed-any c w)
+
+pub gap-open : {E : Late} (c : ℕ) {F G : Follow} → ((r : List ℕ) → F r → Off isBlank r) → ((r : List ℕ) → G (32 ∷ r)) → Open E (gap c) F G
+unfolding gap isBlank
+gap-open c k b = bind-open (byte-open c isBlank 32 refl b) (λ a. skip-open isBlank k)
+
+pub lineEnd-open : {E : Late} (c : ℕ) {F : Follow} → Open E (lineEnd c) F (Next 10)
+unfolding lineEnd isBlank Next
+lineEnd-open c = bind-open (skip-open isBlank (next-off isBlank 10 refl)) (λ a. byte-open c (is 10) 10 refl (λ r. refl))
+
+-- a name, and then `_`
+pub name-open : {E : Late} (c : ℕ) (name : List ℕ) → All solid name → Open E (fixed c name) (Next 95) (Off isBlank)
+unfolding fixed isBlank
+name-open c [] s = give-open tt (next-off isBlank 95 refl)
+name-open c (x ∷ w) s = fixed-first c x w (λ r. solid-head x r (s .0))
+  where
+    solid-head : (x : ℕ) (r : List ℕ) → solid x ≡ true → Off isBlank (x ∷ r)
+    solid-head x r q = unfold Off in (ap (λ (f : ℕ → Bool). f x) blank-is ∙ solid-blank x q)
+
+    fixed-first : {E : Late} (c x : ℕ) (w : List ℕ) {F G : Follow} → ((r : List ℕ) → G (x ∷ r)) → Open E (byte c (is x) >> fixed c w) F G
+    fixed-first c x w k = bind-open (byte-open c (is x) x (eq-eqb x x refl) k) (λ a. fixed-any c w)
+
+-- ---- the end of the text
+
+pub eot-open : {E : Late} (c : ℕ) → Open E (eot c) End End
+unfolding eot Word End after
+eot-open {E} c = record {
+  local = eot-local c;
+  keeps = fits-keep {F = End} (λ b. Unit {0}) (λ b. Word []) (λ b. end-fits c) (λ r h. h);
+  empty = λ t i a q h. h;
+  can = able;
+  saves = λ t i d e g q. inl (go t i d e g (rest t i) q);
+}
+  where
+    able : (t : List ℕ) (i : TextLocation) → Good t i → Way (eot c) End End t i (byteOf i)
+    able t i g = word-way (λ b. Unit {0}) (λ b. Word []) (λ b. end-fits c) (λ r h. h) tt [] tt refl (λ r h. h) t i g
+
+    go : (t : List ℕ) (i : TextLocation) (d : ℕ) (e : TextLocation) → Good t i → (l : List ℕ) → endIf c l i ≡ stop d e → Saved (eot c) End End t i d e
+    go t i d e g [] q = let z : _≡_ {A = ℕ} 0 1 = cc in absurd (omega arith)
+    go t i d e g (b ∷ l) q = let n : after b i ≡ e = cc in (byteOf i, omega arith, taken (omega (arith, ap byteOf n)), able t i g)
+
+-- ---- a look at the next byte
+
+pub fork-open : {E : Late} {A : Type 0} (c x : ℕ) {p : Reader A} (y : ℕ) {q : Reader A} {F G : Follow} → Open E p F (Next x) → Open E q F (Next y) → Grows p → Grows q → Firm p → Firm q → ((r : List ℕ) → G (x ∷ r)) → ((r : List ℕ) → G (y ∷ r)) → eqb y x ≡ false → Open E (fork c x p y q) F G
+unfolding fork after Next
+fork-open {E} {A} c x {p} y {q} {F} {G} hp hq gp gq fp fq kx ky ne = record {
+  local = fork-local c x y (hp .local) (hq .local);
+  keeps = λ t u i a m z s h. fork-firm c x y gp gq fp fq .firm t u i (rw z tt) (λ j b. s j (rw z at b)) ∙ z;
+  empty = λ t i a z h. absurd (no-growth (fork-grows c x y gp gq) t i a z);
+  can = able;
+  saves = λ t i d e g z. go t i d e g (rest t i) refl z;
+}
+  where
+    on-x : (l u : List ℕ) (i : TextLocation) → Next x l → forkOf c x p y q l u i ≡ p u i
+    on-x [] u i k = absurd k
+    on-x (b ∷ l) u i k = rw (eq-eqb b x k)
+
+    on-y : (l u : List ℕ) (i : TextLocation) → Next y l → forkOf c x p y q l u i ≡ q u i
+    on-y [] u i k = absurd k
+    on-y (b ∷ l) u i k = rw (ap (λ (n : ℕ). eqb n x) k ∙ ne, eq-eqb b y k)
+
+    to-x : (l : List ℕ) → Next x l → G l
+    to-x [] k = absurd k
+    to-x (b ∷ l) k = rw k (kx l)
+
+    to-y : (l : List ℕ) → Next y l → G l
+    to-y [] k = absurd k
+    to-y (b ∷ l) k = rw k (ky l)
+
+    kept : (z b : ℕ) (l m : List ℕ) → b ≡ z → Alike (b ∷ l) m → Next z m
+    kept z b l m k heads = k
+
+    -- what saves a branch saves the whole
+    lift-x : (t : List ℕ) (i : TextLocation) (n : ℕ) → ((u : List ℕ) → Same t u n → byteOf i < n → Next x (rest u i)) → byteOf i ≤ n → Way p F (Next x) t i n → Way (λ t i. forkOf c x p y q (rest t i) t i) F G t i n
+    lift-x t i n k l w = record {
+      text = w .text;
+      value = w .value;
+      end = w .end;
+      same = w .same;
+      far = w .far;
+      reach = w .reach;
+      inside = w .inside;
+      reads = λ u s h. on-x (rest u i) u i (is-x u s h (decLt (byteOf i) n)) ∙ w .reads u s h;
+      begins = λ z u s h. to-x (rest u i) (w .begins z u s h);
+    }
+      where
+        is-x : (u : List ℕ) → Same (w .text) u (byteOf (w .end)) → F (rest u (w .end)) → Dec (byteOf i < n) → Next x (rest u i)
+        is-x u s h (yes o) = k u (same-trans t (w .text) u (w .same) s (w .far)) o
+        is-x u s h (no o) = w .begins (omega arith) u s h
+
+    lift-y : (t : List ℕ) (i : TextLocation) (n : ℕ) → ((u : List ℕ) → Same t u n → byteOf i < n → Next y (rest u i)) → byteOf i ≤ n → Way q F (Next y) t i n → Way (λ t i. forkOf c x p y q (rest t i) t i) F G t i n
+    lift-y t i n k l w = record {
+      text = w .text;
+      value = w .value;
+      end = w .end;
+      same = w .same;
+      far = w .far;
+      reach = w .reach;
+      inside = w .inside;
+      reads = λ u s h. on-y (rest u i) u i (is-y u s h (decLt (byteOf i) n)) ∙ w .reads u s h;
+      begins = λ z u s h. to-y (rest u i) (w .begins z u s h);
+    }
+      where
+        is-y : (u : List ℕ) → Same (w .text) u (byteOf (w .end)) → F (rest u (w .end)) → Dec (byteOf i < n) → Next y (rest u i)
+        is-y u s h (yes o) = k u (same-trans t (w .text) u (w .same) s (w .far)) o
+        is-y u s h (no o) = w .begins (omega arith) u s h
+
+    able : (t : List ℕ) (i : TextLocation) → Good t i → Way (λ t i. forkOf c x p y q (rest t i) t i) F G t i (byteOf i)
+    able t i g = lift-x t i (byteOf i) (λ u s l. absurd (omega arith)) (omega arith) (hp .can t i g)
+
+    same-byte : (t u : List ℕ) (i : TextLocation) (n b : ℕ) (l : List ℕ) → rest t i ≡ b ∷ l → Same t u n → byteOf i < n → Alike (b ∷ l) (rest u i)
+    same-byte t u i n b l r s o = rw r at (alike (rest t i) (rest u i) (rest-agree t u i 0 (s (byteOf i + 0) (omega arith))))
+
+    by-x : (t : List ℕ) (i : TextLocation) (d : ℕ) (e : TextLocation) (b : ℕ) (l : List ℕ) → rest t i ≡ b ∷ l → b ≡ x → Saved p F (Next x) t i d e ⊎ E t d e → Saved (λ t i. forkOf c x p y q (rest t i) t i) F G t i d e ⊎ E t d e
+    by-x t i d e b l r z (inl (n, o, k, w)) = inl (n, o, k, lift-x t i n (λ u s j. kept x b l (rest u i) z (same-byte t u i n b l r s j)) o w)
+    by-x t i d e b l r z (inr k) = inr k
+
+    by-y : (t : List ℕ) (i : TextLocation) (d : ℕ) (e : TextLocation) (b : ℕ) (l : List ℕ) → rest t i ≡ b ∷ l → b ≡ y → Saved q F (Next y) t i d e ⊎ E t d e → Saved (λ t i. forkOf c x p y q (rest t i) t i) F G t i d e ⊎ E t d e
+    by-y t i d e b l r z (inl (n, o, k, w)) = inl (n, o, k, lift-y t i n (λ u s j. kept y b l (rest u i) z (same-byte t u i n b l r s j)) o w)
+    by-y t i d e b l r z (inr k) = inr k
+
+    two : (t : List ℕ) (i : TextLocation) (d : ℕ) (e : TextLocation) → Good t i → (b : ℕ) (l : List ℕ) → rest t i ≡ b ∷ l → (v w : Bool) → eqb b x ≡ v → eqb b y ≡ w → choose c (after b i) p q v w t i ≡ stop d e → Saved (λ t i. forkOf c x p y q (rest t i) t i) F G t i d e ⊎ E t d e
+    two t i d e g b l r true w ex ey z = by-x t i d e b l r (eqb-true b x ex) (hp .saves t i d e g z)
+    two t i d e g b l r false true ex ey z = by-y t i d e b l r (eqb-true b y ey) (hq .saves t i d e g z)
+    two t i d e g b l r false false ex ey z = let n : after b i ≡ e = cc in inl (byteOf i, omega arith, taken (omega (arith, ap byteOf n)), able t i g)
+
+    go : (t : List ℕ) (i : TextLocation) (d : ℕ) (e : TextLocation) → Good t i → (l : List ℕ) → rest t i ≡ l → forkOf c x p y q l t i ≡ stop d e → Saved (λ t i. forkOf c x p y q (rest t i) t i) F G t i d e ⊎ E t d e
+    go t i d e g [] r z = let n : i ≡ e = cc in inl (byteOf i, omega arith, ended (ap byteOf n) (rw n at r), able t i g)
+    go t i d e g (b ∷ l) r z = two t i d e g b l r (eqb b x) (eqb b y) refl refl z

@@ -1,0 +1,66 @@
+-- A row for each number of document 01's table that no mask has, computed as the masks are.
+use mathlib.Core.Path.{_≡_, refl}
+use Prim.Native.Nat.{ℕ}
+use Prim.Native.String.{String}
+use mathlib.Core.List.{List, [], _∷_, _++_, map}
+use lib.ListN.{replicate}
+use Rattle.text.specs.Ascii.{ascii}
+use Rattle.text.specs.Place.{after, rest}
+use Rattle.text.specs.Reader.{_>>=_}
+use Rattle.text.specs.Leaf.{give, want, need, one, run, fork, eot}
+use Rattle.lexical.specs.Lexical.{isBlank, isLoose, byte, skip, fixed, gap, lineEnd, leading}
+use Rattle.lexical.specs.Token.{token, span}
+use Rattle.lexical.specs.Hex.{hexOf, hexv, hexDigit, isMark, hexStart, hexDigits, hexUnit}
+use Rattle.integer.specs.Decimal.{isDigit, digitsFrom}
+use Rattle.header.specs.Header.{endsWith, before, positive, widthLine, element, arrayLine, rest as restOf, opening, header}
+use Rattle.header.specs.Answer.{stored}
+use Rattle.decoder.specs.Data.{item, items, brace, closing, tail, trailer, logOf}
+use Rattle.image.specs.Cells.{cell, painted}
+use Rattle.image.specs.Rows.{whole}
+use Rattle.image.specs.Reading.{picture, reading}
+use Rattle.print.specs.Decimal.{digits}
+use Rattle.print.specs.Output.{joined}
+use Rattle.listing.specs.Listing.{afterHeader, listed}
+use Rattle.claims.specs.Masks.{Row, given, wanted}
+
+-- the lines after the width line; all nine cells lent as 7
+abbrev row : String → String → List ℕ → Row
+row rest prints cells = record { text = ascii "#define d_width 9\n" ++ ascii rest; lent = replicate 9 7; prints = prints; stored = "d_width"; cells = cells }
+
+abbrev header-row : String → String → Row
+header-row rest prints = row rest prints (replicate 9 7)
+
+-- a text of its own
+abbrev first-row : String → String → String → Row
+first-row text prints stored = record { text = ascii text; lent = replicate 9 7; prints = prints; stored = stored; cells = replicate 9 7 }
+
+abbrev inked : List ℕ
+inked = 0 ∷ replicate 8 255
+
+abbrev table : List Row
+table =
+    first-row "#include\n" "refused 1 byte=2,line=1:col=2\n" ""
+    ∷ first-row "#define\n" "refused 1 byte=8,line=2:col=0\n" ""
+    ∷ first-row "#define d_wide 9\n" "refused 1 byte=14,line=1:col=14\n" "d_wide"
+    ∷ first-row "\n\nx#\n#define d_width\t9" "refused 1 byte=22,line=4:col=17\n" "d_width"
+    ∷ header-row "#define d_height x\n" "refused 12\n"
+    ∷ header-row "#define d_height 0\n" "refused 22\n"
+    ∷ header-row "#define d_height 00\n" "refused 12\n"
+    ∷ header-row "#define d_height 1\nchar" "refused 5 byte=38,line=3:col=1\n"
+    ∷ header-row "#define d_height 1\n" "refused 5 byte=37,line=3:col=0\n"
+    ∷ header-row "#define d_height 1\n#define d_y_hot 1\n" "refused 3 byte=48,line=3:col=11\n"
+    ∷ header-row "#define d_height 1\n#define d_x_hot x\n" "refused 13\n"
+    ∷ header-row "#define d_height 1\n#define d_x_hot 3\nstatic" "refused 4 byte=56,line=4:col=1\n"
+    ∷ header-row "#define d_height 1\n#define d_x_hot 3\n#define d_y_hot 2147483648\n" "refused 14\n"
+    ∷ header-row "#define d_height 1\nstatic int" "refused 5 byte=45,line=3:col=8\n"
+    ∷ row "#define d_height 1\n#define d_x_hot 3\n#define d_y_hot -40\nstatic char d_bits[] = {0x01,0x00};\n" "width 9\nheight 1\nhotspot 3 -40\nink 1\n" inked
+    ∷ row "#define d_height 1\nstatic char d_bits[] = {0x01,0x00,0x00};\n" "refused 7 byte=72,line=3:col=35\n" inked
+    ∷ row "#define d_height 1\nstatic char d_bits[] = {0x01,0x00z" "refused 7 byte=71,line=3:col=34\n" inked
+    ∷ row "#define d_height 1\nstatic char d_bits[] = {0x01,0x00};\nz" "refused 8 byte=74,line=4:col=1\n" inked
+    ∷ row "#define d_height 1\nstatic char d_bits[] = {0x01,0x" "refused 6 byte=68,line=3:col=31\n" (0 ∷ replicate 7 255 ++ (7 ∷ []))
+    ∷ header-row "#define d_height 7282\nstatic char d_bits[] = {" "refused 42\n"
+    ∷ []
+
+pub rows : map given table ≡ map wanted table
+unfolding after rest _>>=_ give want need one run fork eot isBlank isLoose byte skip fixed gap lineEnd leading token span hexOf hexv hexDigit isMark hexStart hexDigits hexUnit isDigit digitsFrom restOf endsWith before positive widthLine element arrayLine opening header stored item items brace closing tail trailer logOf cell painted whole picture reading digits joined afterHeader listed
+rows = refl

@@ -1,0 +1,286 @@
+-- The refusals of the width line and the height line, two-sided: 1, 11, 21 and 2, 12, 22.
+use mathlib.Core.Path.{_≡_, refl, sym, ap, _∙_}
+use mathlib.Core.Logic.{_↔_}
+use Prim.Native.Nat.{ℕ, zero, suc, _+_, _-_, _*_, _≤_}
+use native.Mathlib.Omega.{arith}
+use mathlib.Core.Option.{Option, none, some}
+use mathlib.Core.Bool.{true}
+use mathlib.Core.List.{List, [], _∷_, _++_}
+use lib.ListN.{length}
+use Rattle.text.specs.declared.TextLocation.{TextLocation}
+use Rattle.text.specs.Ascii.{ascii}
+use Rattle.text.specs.Place.{start}
+use Rattle.text.specs.Reader.{Result, ok, stop, bad, then, Reader, _>>=_, _>>_}
+use Rattle.text.specs.Leaf.{give, need}
+use Rattle.text.specs.Outcome.{Outcome, refused, unplaced, outcome}
+use Rattle.lexical.specs.Lexical.{locals, milds, leading}
+use Rattle.header.specs.Header.{Head, line-laws, side, positive, widthLine, element, arrayLine, rest, header}
+use Rattle.image.specs.Rows.{whole}
+use Rattle.image.specs.Reading.{picture, reading}
+use Rattle.grammar.specs.Lang.{Lang, Word, _·_, All, Star}
+use Rattle.grammar.specs.Grammar.{Mask, solid, Decimal, Side, Skipped, Define, Symbol}
+use Rattle.grammar.specs.Tests.{number, value-up, number→decimal, decimal→number, positive-ok}
+use Rattle.grammar.specs.Fits.{Any, Fits, fit-run}
+use Rattle.grammar.specs.Pieces.{leading-fits}
+use Rattle.grammar.specs.Lines.{width-fits}
+use Rattle.claims.specs.Terms.{Begun}
+use Rattle.claims.specs.Numbers.{Numbered, numbers, whole-numbered, placed-number, unplaced-number}
+use Rattle.refusals.specs.Terms.{Token, Front, Second, No, NoSide, Placed}
+use Rattle.refusals.specs.Stages.{both-ways, assoc, Quiet, quiet-mild, quiet-bind, quiet-need, quiet-fork, need-none, need-some, stage-stop, stage-bad, after-stop, after-bad, begun}
+use Rattle.refusals.specs.Lines.{known, known-fits, front, front-fits, widths, raw, define-begins, line-is, wide, next, header-is}
+
+pub ruleset quiets = (quiet-bind, quiet-need, quiet-fork, quiet-mild, milds, locals, line-laws)
+
+-- ---- what is told of a header's refusal
+
+module _ (text name pixels : List ℕ) where
+  abbrev told : Result (Head × List ℕ) → Outcome Head
+  told = outcome (λ (p : Head × List ℕ). p .0)
+
+  pub told-stop : (c : ℕ) → c ≤ 5 → Placed (reading text name pixels .answer) c ↔ ((q : TextLocation) × (header (length name) text start ≡ stop c q))
+  unfolding reading picture _>>=_ give
+  told-stop c l = go (header (length name) text start)
+    where
+      after : (h : Head) (e : TextLocation) (r : Result (List ℕ)) → whole (h .width) (h .height) (length pixels) text e ≡ r → (p : TextLocation) → told (then r (λ l e. ok (h, l) e)) ≡ refused c p → ⊥
+      after h e (ok a m) q p x = let z : _≡_ {A = ℕ} 0 1 = cc in omega arith
+      after h e (bad d m) q p x = let z : _≡_ {A = ℕ} 0 1 = cc in omega arith
+      after h e (stop d m) q p x = let z : d ≡ c = cc in omega (arith, placed-number (whole-numbered (h .width) (h .height) (length pixels)) text e d m q)
+
+      go : (r : Result Head) → ((p : TextLocation) × (told (then r (λ h e. then (whole (h .width) (h .height) (length pixels) text e) (λ l e. ok (h, l) e))) ≡ refused c p)) ↔ ((q : TextLocation) × (r ≡ stop c q))
+      go (ok h e) = ((λ (p, x). absurd (after h e (whole (h .width) (h .height) (length pixels) text e) refl p x)), λ (q, x). (let z : _≡_ {A = ℕ} 0 1 = cc in absurd (omega arith)))
+      go (stop d e) = ((λ (p, x). (p, cc)), λ (q, x). (q, cc))
+      go (bad d e) = ((λ (p, x). (let z : _≡_ {A = ℕ} 0 1 = cc in absurd (omega arith))), λ (q, x). (let z : _≡_ {A = ℕ} 0 1 = cc in absurd (omega arith)))
+
+  pub told-bad : (c : ℕ) → (c ≡ 31 → ⊥) → (reading text name pixels .answer ≡ unplaced c) ↔ ((q : TextLocation) × (header (length name) text start ≡ bad c q))
+  unfolding reading picture _>>=_ give
+  told-bad c l = go (header (length name) text start)
+    where
+      after : (h : Head) (e : TextLocation) (r : Result (List ℕ)) → whole (h .width) (h .height) (length pixels) text e ≡ r → told (then r (λ l e. ok (h, l) e)) ≡ unplaced c → ⊥
+      after h e (ok a m) q x = let z : _≡_ {A = ℕ} 0 1 = cc in omega arith
+      after h e (stop d m) q x = let z : _≡_ {A = ℕ} 0 1 = cc in omega arith
+      after h e (bad d m) q x = let z : d ≡ c = cc in l (omega (arith, unplaced-number (whole-numbered (h .width) (h .height) (length pixels)) text e d m q))
+
+      go : (r : Result Head) → (told (then r (λ h e. then (whole (h .width) (h .height) (length pixels) text e) (λ l e. ok (h, l) e))) ≡ unplaced c) ↔ ((q : TextLocation) × (r ≡ bad c q))
+      go (ok h e) = ((λ x. absurd (after h e (whole (h .width) (h .height) (length pixels) text e) refl x)), λ (q, x). (let z : _≡_ {A = ℕ} 0 1 = cc in absurd (omega arith)))
+      go (bad d e) = ((λ x. (e, cc)), λ (q, x). cc)
+      go (stop d e) = ((λ x. (let z : _≡_ {A = ℕ} 0 1 = cc in absurd (omega arith))), λ (q, x). (let z : _≡_ {A = ℕ} 0 1 = cc in absurd (omega arith)))
+
+-- ---- a line's integer apart
+
+define-out : (S N : Lang) (u : List ℕ) → Define S N u → (v : List ℕ) × N v × Define S (Word v) u
+unfolding Define _·_ Word
+define-out S N u (a, b, q, x, (c, d, r, y, (e, f, s, z, (g, h, k, w, (v, l, m, n, o))))) = (v, n, (a, b, q, x, (c, d, r, y, (e, f, s, z, (g, h, k, w, (v, l, m, refl, o))))))
+
+define-in : (S N : Lang) (v u : List ℕ) → Define S (Word v) u → N v → Define S N u
+unfolding Define _·_ Word
+define-in S N v u (a, b, q, x, (c, d, r, y, (e, f, s, z, (g, h, k, w, (i, l, m, n, o))))) p = (a, b, q, x, (c, d, r, y, (e, f, s, z, (g, h, k, w, (i, l, m, rw n p, o)))))
+
+pub begun-out : (K S N : Lang) (t : List ℕ) → Begun (K · Define S N) t → (v : List ℕ) × N v × Begun (K · Define S (Word v)) t
+unfolding _·_
+begun-out K S N t (u, r, q, (a, b, o, k, d)) = let (v, n, e) = define-out S N b d in (v, n, (u, r, q, (a, b, o, k, e)))
+
+pub begun-in : (K S N : Lang) (v t : List ℕ) → Begun (K · Define S (Word v)) t → N v → Begun (K · Define S N) t
+unfolding _·_
+begun-in K S N v t (u, r, q, (a, b, o, k, d)) n = (u, r, q, (a, b, o, k, define-in S N v b d n))
+
+-- ---- what a token is not
+
+none-side : (w : List ℕ) → (number w ≡ none) ↔ NoSide w
+none-side w = ((λ q n d l. (let z : _≡_ {A = ℕ} 0 1 = cc (q, decimal→number w n d l) in omega arith)), λ g. go (number w) refl g)
+  where
+    go : (o : Option ℕ) → number w ≡ o → NoSide w → o ≡ none
+    go none q g = refl
+    go (some v) q g = let (d, l) = number→decimal w v q in absurd (g v d l)
+
+none-positive : (v : ℕ) → (positive v ≡ none) ↔ (v ≡ 0)
+unfolding positive
+none-positive zero = ((λ q. refl), λ q. refl)
+none-positive (suc v) = ((λ q. (let z : _≡_ {A = ℕ} 0 1 = cc (q, positive-ok (suc v) (omega arith)) in absurd (omega arith))), λ q. absurd (omega arith))
+
+zero-token : (w : List ℕ) → Decimal 0 w → Token w
+unfolding Decimal
+zero-token [] d = absurd d
+zero-token (x ∷ []) ((a, u), v) = let z : x ≡ 48 = omega (arith, a) in rw z ((refl, tt), omega arith)
+zero-token (x ∷ y ∷ w) (n, (a, u), v) = absurd (n (omega (arith, a, value-up (0 * 10 + (x - 48)) (y ∷ w))))
+
+-- ---- the width line
+
+next-quiet : (nw : List ℕ × ℕ) → Quiet 21 (next nw)
+unfolding rest arrayLine element
+next-quiet nw = search quiets depth 80 fits 40000
+
+front-numbered : (limit : ℕ) → Numbered 1 1 1 0 (front limit)
+unfolding front widths raw
+front-numbered limit = search numbers depth 40 fits 10000
+
+wide-numbered : (p : List ℕ × List ℕ) → Numbered 2 5 11 22 (wide p >>= next)
+unfolding rest arrayLine element
+wide-numbered p = search numbers depth 80 fits 40000
+
+front-quiet : (limit d : ℕ) → Quiet d (front limit)
+unfolding front widths raw
+front-quiet limit d = search quiets depth 40 fits 10000
+
+module _ (name w : List ℕ) (t : List ℕ) (m : TextLocation) where
+  abbrev sized : ℕ → Reader (List ℕ × ℕ)
+  sized v = need 21 (positive v) >>= λ n. give (name, n)
+
+  -- 11: its token is no integer of 32 bits
+  wide-11 : ((q : TextLocation) × ((wide (name, w) >>= next) t m ≡ bad 11 q)) ↔ NoSide w
+  wide-11 = rw (assoc (need 11 (number w)) sized next) (both-ways (need-none (number w) (λ v. sized v >>= next) 11 t m quiet-11) (none-side w))
+    where
+      quiet-11 : (v : ℕ) → Quiet 11 (sized v >>= next)
+      quiet-11 v = unfold rest arrayLine element in search quiets depth 80 fits 40000
+
+  -- 21: it is 0
+  wide-21 : ((q : TextLocation) × ((wide (name, w) >>= next) t m ≡ bad 21 q)) ↔ Decimal 0 w
+  wide-21 = rw (assoc (need 11 (number w)) sized next) (both-ways (need-some (number w) (λ v. sized v >>= next) 11 21 t m (λ q. omega arith)) ((λ (v, q, x). there v q x), λ d. (0, decimal→number w 0 d (omega arith), zero-is 0 .1 refl)))
+    where
+      zero-is : (v : ℕ) → ((q : TextLocation) × ((sized v >>= next) t m ≡ bad 21 q)) ↔ (v ≡ 0)
+      zero-is v = rw (assoc (need 21 (positive v)) (λ n. give (name, n)) next) (both-ways (need-none (positive v) (λ n. give (name, n) >>= next) 21 t m (λ n. quiet-bind (search quiets) next-quiet)) (none-positive v))
+
+      there : (v : ℕ) → number w ≡ some v → (q : TextLocation) × ((sized v >>= next) t m ≡ bad 21 q) → Decimal 0 w
+      there v q x = let z : v ≡ 0 = zero-is v .0 x in rw z at (number→decimal w v q .0)
+
+module _ (text name pixels : List ℕ) where
+  abbrev limit : ℕ
+  limit = length name
+
+  abbrev Line : List ℕ × List ℕ → Lang
+  Line p = Star Skipped · Define (Symbol limit (p .0)) (Word (p .1))
+
+  pub row-1 : Placed (reading text name pixels .answer) 1 ↔ ((s : List ℕ) → No (Front limit s Token) text)
+  row-1 = both-ways (told-stop text name pixels 1 (omega arith)) (rw (header-is limit) (both-ways (stage-stop (front limit) (λ p. wide p >>= next) (λ p. Token (p .1)) Line (front-fits limit) 1 (front-numbered limit) text start wide-numbered (λ a b. omega arith)) (
+    (λ g s b. (let (v, k, d) = begun-out (Star Skipped) (Symbol limit s) Token text b in let (e, l) = begun (Line (s, v)) text .1 d in g (s, v) e k l)),
+    λ g p e k l. g (p .0) (begun-in (Star Skipped) (Symbol limit (p .0)) Token (p .1) text (begun (Line p) text .0 (e, l)) k),
+  )))
+
+  told-front : (d : ℕ) (Q : List ℕ → Type 0) → (d ≡ 31 → ⊥) → ((s w : List ℕ) (m : TextLocation) → ((q : TextLocation) × ((wide (s, w) >>= next) text m ≡ bad d q)) ↔ Q w)
+      → (reading text name pixels .answer ≡ unplaced d) ↔ ((s : List ℕ) × (w : List ℕ) × Begun (Front limit s (Word w)) text × Token w × Q w)
+  told-front d Q l k = both-ways (told-bad text name pixels d l) (rw (header-is limit) (both-ways (stage-bad (front limit) (λ p. wide p >>= next) (λ p. Token (p .1)) Line (front-fits limit) 1 (front-numbered limit) text start d (λ p. Q (p .1)) (front-quiet limit d) (λ p m. k (p .0) (p .1) m)) (
+    (λ (p, e, x, a, y). (p .0, p .1, begun (Line p) text .0 (e, a), x, y)),
+    λ (s, w, b, x, y). (let (e, a) = begun (Line (s, w)) text .1 b in ((s, w), e, x, a, y)),
+  )))
+
+  pub row-11 : (reading text name pixels .answer ≡ unplaced 11) ↔ ((s : List ℕ) × (w : List ℕ) × Begun (Front limit s (Word w)) text × Token w × NoSide w)
+  row-11 = told-front 11 NoSide (λ q. omega arith) (λ s w m. wide-11 s w text m)
+
+  pub row-21 : (reading text name pixels .answer ≡ unplaced 21) ↔ ((s : List ℕ) × Begun (Front limit s (Decimal 0)) text)
+  row-21 = both-ways (told-front 21 (Decimal 0) (λ q. omega arith) (λ s w m. wide-21 s w text m)) (
+    (λ (s, w, b, x, d). (s, begun-in (Star Skipped) (Symbol limit s) (Decimal 0) w text b d)),
+    λ (s, b). (let (v, d, c) = begun-out (Star Skipped) (Symbol limit s) (Decimal 0) text b in (s, v, c, zero-token v d, d)),
+  )
+
+-- ---- the height line
+
+-- the header up to the width line's end
+unfoldable pub first : ℕ → Reader (List ℕ × ℕ)
+first limit = leading 1 true >> widthLine limit
+
+pub first-fits : (limit : ℕ) (nw : List ℕ × ℕ) → Fits (first limit) nw (Unit {0}) (Front limit (nw .0) (Side (nw .1))) Any
+unfolding first
+first-fits limit (name, n) = fit-run leading-fits (define-begins _ _) (λ a. width-fits limit name n)
+
+pub front-name : (limit : ℕ) (name : List ℕ) (N : Lang) (w : List ℕ) → Front limit name N w → All solid name
+unfolding Define Symbol _·_
+front-name limit name N w (a, b, q, k, (u, v, o, l, (u1, v1, q1, k1, (u2, v2, q2, k2, m)))) = k2 .1
+
+first-numbered : (limit : ℕ) → Numbered 1 1 11 22 (first limit)
+unfolding first widthLine
+first-numbered limit = search numbers depth 40 fits 10000
+
+-- what is made of the height line's token
+abbrev pub high : List ℕ × ℕ → List ℕ → Reader Head
+high nw w = side 12 22 w >>= λ h. rest (nw .0) (nw .1) h
+
+abbrev pub heights : List ℕ → Reader (List ℕ)
+heights name = known 2 name (ascii "_height")
+
+next-is : (nw : List ℕ × ℕ) → next nw ≡ (heights (nw .0) >>= high nw)
+next-is nw = ap (λ (p : Reader ℕ). p >>= λ h. rest (nw .0) (nw .1) h) (sym (line-is 2 (nw .0) (ascii "_height") (side 12 22))) ∙ assoc (heights (nw .0)) (side 12 22) (rest (nw .0) (nw .1))
+
+header-next : (limit : ℕ) → header limit ≡ (first limit >>= λ nw. heights (nw .0) >>= high nw)
+unfolding header first
+header-next limit = sym (assoc (leading 1 true) (λ a. widthLine limit) next) ∙ ap (λ (f : List ℕ × ℕ → Reader Head). (leading 1 true >> widthLine limit) >>= f) (λ i nw. next-is nw i)
+
+heights-numbered : (name : List ℕ) → Numbered 2 2 1 0 (heights name)
+unfolding known raw
+heights-numbered name = search numbers depth 40 fits 10000
+
+high-numbered : (nw : List ℕ × ℕ) (w : List ℕ) → Numbered 3 5 12 22 (high nw w)
+unfolding rest arrayLine element
+high-numbered nw w = search numbers depth 80 fits 40000
+
+pub known-quiet : (c d : ℕ) (name z : List ℕ) → Quiet d (known c name z)
+unfolding known raw
+known-quiet c d name z = search quiets depth 40 fits 10000
+
+first-12 : (limit : ℕ) → Quiet 12 (first limit)
+unfolding first widthLine
+first-12 limit = search quiets depth 40 fits 10000
+
+first-22 : (limit : ℕ) → Quiet 22 (first limit)
+unfolding first widthLine
+first-22 limit = search quiets depth 40 fits 10000
+
+rest-quiet : (name : List ℕ) (w h : ℕ) → Quiet 22 (rest name w h)
+unfolding rest arrayLine element
+rest-quiet name w h = search quiets depth 80 fits 40000
+
+module _ (nw : List ℕ × ℕ) (w : List ℕ) (t : List ℕ) (m : TextLocation) where
+  abbrev tall : ℕ → Reader Head
+  tall h = rest (nw .0) (nw .1) h
+
+  sizing : high nw w ≡ (need 12 (number w) >>= λ v. need 22 (positive v) >>= tall)
+  sizing = assoc (need 12 (number w)) (λ v. need 22 (positive v)) tall
+
+  high-12 : ((q : TextLocation) × (high nw w t m ≡ bad 12 q)) ↔ NoSide w
+  high-12 = rw sizing (both-ways (need-none (number w) (λ v. need 22 (positive v) >>= tall) 12 t m quiet-12) (none-side w))
+    where
+      quiet-12 : (v : ℕ) → Quiet 12 (need 22 (positive v) >>= tall)
+      quiet-12 v = unfold rest arrayLine element in search quiets depth 80 fits 40000
+
+  high-22 : ((q : TextLocation) × (high nw w t m ≡ bad 22 q)) ↔ Decimal 0 w
+  high-22 = rw sizing (both-ways (need-some (number w) (λ v. need 22 (positive v) >>= tall) 12 22 t m (λ q. omega arith)) ((λ (v, q, x). there v q x), λ d. (0, decimal→number w 0 d (omega arith), zero-is 0 .1 refl)))
+    where
+      zero-is : (v : ℕ) → ((q : TextLocation) × ((need 22 (positive v) >>= tall) t m ≡ bad 22 q)) ↔ (v ≡ 0)
+      zero-is v = both-ways (need-none (positive v) tall 22 t m (rest-quiet (nw .0) (nw .1))) (none-positive v)
+
+      there : (v : ℕ) → number w ≡ some v → (q : TextLocation) × ((need 22 (positive v) >>= tall) t m ≡ bad 22 q) → Decimal 0 w
+      there v q x = let z : v ≡ 0 = zero-is v .0 x in rw z at (number→decimal w v q .0)
+
+-- a mask of which only so much is known
+abbrev pub sketch : List ℕ → ℕ → ℕ → Mask
+sketch name w h = record { name = name; width = w; height = h; hot = none; bytes = [] }
+
+module _ (text name pixels : List ℕ) where
+  abbrev lim : ℕ
+  lim = length name
+
+  abbrev Wide : List ℕ × ℕ → Lang
+  Wide nw = Front lim (nw .0) (Side (nw .1))
+
+  abbrev High : List ℕ × ℕ → List ℕ → Lang
+  High nw w = Define (Word (nw .0 ++ ascii "_height")) (Word w)
+
+  pub row-2 : Placed (reading text name pixels .answer) 2 ↔ ((m : Mask) × Begun (Front lim (m .name) (Side (m .width))) text × No (Second lim m Token) text)
+  row-2 = both-ways (told-stop text name pixels 2 (omega arith)) (rw (header-next lim) (both-ways (after-stop (first lim) (λ nw. heights (nw .0)) high Wide (λ nw. All solid (nw .0)) Token High (first-fits lim) (λ nw w k. front-name lim (nw .0) (Side (nw .1)) w k) (λ nw s w. known-fits 2 (nw .0) (ascii "height") w s) 2 (λ nw. heights-numbered (nw .0)) text start (first-numbered lim) (λ a b. omega arith) high-numbered (λ a b. omega arith)) (
+    (λ (nw, k, g). (sketch (nw .0) (nw .1) 0, begun (Wide nw) text .0 k, λ b. (let (v, x, d) = begun-out (Wide nw) (Word (nw .0 ++ ascii "_height")) Token text b in let (e, l) = begun (Wide nw · High nw v) text .1 d in g v e x l))),
+    λ (m, b, g). ((m .name, m .width), begun (Wide (m .name, m .width)) text .1 b, λ v e x l. g (begun-in (Wide (m .name, m .width)) (Word (m .name ++ ascii "_height")) Token v text (begun (Wide (m .name, m .width) · High (m .name, m .width) v) text .0 (e, l)) x)),
+  )))
+
+  told-first : (d : ℕ) (Q : List ℕ → Type 0) → (d ≡ 31 → ⊥) → Quiet d (first lim) → ((nw : List ℕ × ℕ) (w : List ℕ) (m : TextLocation) → ((q : TextLocation) × (high nw w text m ≡ bad d q)) ↔ Q w)
+      → (reading text name pixels .answer ≡ unplaced d) ↔ ((m : Mask) × (w : List ℕ) × Begun (Second lim m (Word w)) text × Token w × Q w)
+  told-first d Q l np k = both-ways (told-bad text name pixels d l) (rw (header-next lim) (both-ways (after-bad (first lim) (λ nw. heights (nw .0)) high Wide (λ nw. All solid (nw .0)) Token High (first-fits lim) (λ nw w k. front-name lim (nw .0) (Side (nw .1)) w k) (λ nw s w. known-fits 2 (nw .0) (ascii "height") w s) 2 (λ nw. heights-numbered (nw .0)) text start d Q np (λ nw. known-quiet 2 d (nw .0) (ascii "_height")) k) (
+    (λ (nw, w, e, x, a, y). (sketch (nw .0) (nw .1) 0, w, begun (Wide nw · High nw w) text .0 (e, a), x, y)),
+    λ (m, w, b, x, y). (let (e, a) = begun (Wide (m .name, m .width) · High (m .name, m .width) w) text .1 b in ((m .name, m .width), w, e, x, a, y)),
+  )))
+
+  pub row-12 : (reading text name pixels .answer ≡ unplaced 12) ↔ ((m : Mask) × (w : List ℕ) × Begun (Second lim m (Word w)) text × Token w × NoSide w)
+  row-12 = told-first 12 NoSide (λ q. omega arith) (first-12 lim) (λ nw w m. high-12 nw w text m)
+
+  pub row-22 : (reading text name pixels .answer ≡ unplaced 22) ↔ ((m : Mask) × Begun (Second lim m (Decimal 0)) text)
+  row-22 = both-ways (told-first 22 (Decimal 0) (λ q. omega arith) (first-22 lim) (λ nw w m. high-22 nw w text m)) (
+    (λ (m, w, b, x, d). (m, begun-in (Wide (m .name, m .width)) (Word (m .name ++ ascii "_height")) (Decimal 0) w text b d)),
+    λ (m, b). (let (v, d, c) = begun-out (Wide (m .name, m .width)) (Word (m .name ++ ascii "_height")) (Decimal 0) text b in (m, v, c, zero-token v d, d)),
+  )
