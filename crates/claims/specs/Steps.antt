@@ -63,7 +63,7 @@ module _ (t : List ℕ) (d : XbmStreamDecoder) (h : Native t d) where
       go (stop c e) = refl
       go (bad c e) = refl
 
-  next-decoder : d .«current_position» < sizeOf d → (b : ℕ) (m : TextLocation) → item (eqb (d .«current_position») 0) t (d .location) ≡ ok b m → stepOf t d .decoder ≡ placedAt d (d .«current_position» + 1) m
+  pub next-decoder : d .«current_position» < sizeOf d → (b : ℕ) (m : TextLocation) → item (eqb (d .«current_position») 0) t (d .location) ≡ ok b m → stepOf t d .decoder ≡ placedAt d (d .«current_position» + 1) m
   unfolding stepOf called _>>=_ give
   next-decoder l b m q = rw (not-foreign t d h, lt-ltb (d .«current_position») (sizeOf d) l, q)
 

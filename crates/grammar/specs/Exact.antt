@@ -108,11 +108,11 @@ item-begins b = search begin
 
 -- ---- all of them
 
-first-fits : (b : ℕ) → Fits (item true) b (Unit {0}) (Loose · Byte b) Any
+pub first-fits : (b : ℕ) → Fits (item true) b (Unit {0}) (Loose · Byte b) Any
 unfolding item Loose
 first-fits b = search (fit, item-begins, byte-of)
 
-next-fits : (b : ℕ) → Fits (item false) b (Unit {0}) (Loose · Word (ascii ",") · Loose · Byte b) Any
+pub next-fits : (b : ℕ) → Fits (item false) b (Unit {0}) (Loose · Word (ascii ",") · Loose · Byte b) Any
 unfolding item Loose
 next-fits b = search (fit, item-begins, byte-of) depth 10
 

@@ -23,17 +23,9 @@ use Rattle.decoder.specs.Step.{bytesOf, foreign, more, called, spent, placedAt,
 use Rattle.grammar.specs.Bind.{bind-case, bind-ok, bind-stop}
 use Rattle.claims.specs.Numbers.{Numbered, bind-numbered, give-numbered, item-numbered, trailer-numbered, unplaced-number}
 use Rattle.claims.specs.Steps.{Native, not-foreign, sizeOf, next-answer, last-answer}
+use Rattle.refusals.specs.Terms.{Foreign, no-width, no-height, position, byte, column, line}
 
--- document 01's foreign decoder, a rule a line
-pub data Foreign (t : List ℕ) (d : XbmStreamDecoder) : Type 0 where
-  no-width : d .width ≡ 0 → Foreign t d
-  no-height : d .height ≡ 0 → Foreign t d
-  position : (d .width + 7) / 8 * d .height < d .«current_position» → Foreign t d
-  byte : length t < d .location .byte .0 → Foreign t d
-  column : d .location .byte .0 < d .location .column .0 → Foreign t d
-  line : d .location .byte .0 + 1 < d .location .line .0 → Foreign t d
-
-foreign-exactly : (t : List ℕ) (d : XbmStreamDecoder) → (foreign t d ≡ true) ↔ Foreign t d
+pub foreign-exactly : (t : List ℕ) (d : XbmStreamDecoder) → (foreign t d ≡ true) ↔ Foreign t d
 unfolding foreign
 foreign-exactly t d = go _ _ _ _ _ _ refl refl refl refl refl refl
   where
@@ -121,7 +113,7 @@ at-end : (t : List ℕ) (e : TextLocation) → rest t e ≡ [] → trailer t e �
 unfolding trailer closing
 at-end t e q = bind-stop closing (λ a. tail) t e 7 e (bind-ok (skip isLoose) _ t e tt e (skip-end t e q) ∙ bind-stop brace _ t e 7 e (brace-end t e q))
 
-of-here : (t : List ℕ) (d : XbmStreamDecoder) → foreign t d ≡ false → Native t d
+pub of-here : (t : List ℕ) (d : XbmStreamDecoder) → foreign t d ≡ false → Native t d
 of-here t d q = record {
   wide = λ x. not-so (no-width x);
   high = λ x. not-so (no-height x);
@@ -141,7 +133,7 @@ of-here t d q = record {
         go (no l) = omega arith
 
 module _ (t : List ℕ) (d : XbmStreamDecoder) (h : Native t d) (l : d .«current_position» ≡ sizeOf d) where
-  last-decoder : stepOf t d .decoder ≡ placedAt d (d .«current_position») (endOf (trailer t (d .location)))
+  pub last-decoder : stepOf t d .decoder ≡ placedAt d (d .«current_position») (endOf (trailer t (d .location)))
   unfolding stepOf called _>>=_ give
   last-decoder = rw (not-foreign t d h, le-ltb (d .«current_position») (sizeOf d) (omega arith)) (go (trailer t (d .location)))
     where

@@ -9,5 +9,7 @@ pub mod Ends
 pub mod DataRows
 pub mod Table
 pub mod Calls
+pub mod CallRows
 pub mod Stored
+pub mod Refusals
 pub mod Examples

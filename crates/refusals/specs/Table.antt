@@ -1,4 +1,4 @@
--- Document 01's table of refusals holds of every reading.
+-- No number is told but those of document 01's table.
 use mathlib.Core.Path.{_≡_, refl, sym}
 use mathlib.Core.Logic.{_⊎_, inl, inr}
 use Prim.Native.Nat.{ℕ, _≤_}
@@ -18,36 +18,8 @@ use Rattle.image.specs.Rows.{whole}
 use Rattle.image.specs.Reading.{picture, reading}
 use Rattle.claims.specs.Numbers.{header-numbered, whole-numbered, placed-number, unplaced-number}
 use Rattle.refusals.specs.Stages.{Quiet}
-use Rattle.refusals.specs.Terms.{Numbers}
-use Rattle.refusals.specs.HeaderRows.{quiets, row-1, row-11, row-21, row-2, row-12, row-22}
-use Rattle.refusals.specs.HotspotRows.{row-3, row-13, row-4, row-14}
-use Rattle.refusals.specs.ArrayRow.{row-5}
-use Rattle.refusals.specs.DataRows.{row-6, row-7, row-8}
-
-pub table : Numbers
-table text name pixels = record {
-  n1 = row-1 text name pixels;
-  n11 = row-11 text name pixels;
-  n21 = row-21 text name pixels;
-  n2 = row-2 text name pixels;
-  n12 = row-12 text name pixels;
-  n22 = row-22 text name pixels;
-  n3 = row-3 text name pixels;
-  n13 = row-13 text name pixels;
-  n4 = row-4 text name pixels;
-  n14 = row-14 text name pixels;
-  n5 = row-5 text name pixels;
-  n6 = row-6 text name pixels;
-  n7 = row-7 text name pixels;
-  n8 = row-8 text name pixels;
-}
-
--- ---- and it is the whole table: no other number is told, but 31 for the buffer's rows
-
-abbrev pub InTable : Outcome Head → Type 0
-InTable (accepted h) = Unit {0}
-InTable (refused c p) = (1 ≤ c) × (c ≤ 8)
-InTable (unplaced c) = (c ≡ 11) ⊎ ((c ≡ 12) ⊎ ((c ≡ 13) ⊎ ((c ≡ 14) ⊎ ((c ≡ 21) ⊎ ((c ≡ 22) ⊎ (c ≡ 31))))))
+use Rattle.refusals.specs.Terms.{InTable}
+use Rattle.refusals.specs.HeaderRows.{quiets}
 
 header-quiet : (limit c : ℕ) → eqb 11 c ≡ false → eqb 12 c ≡ false → eqb 13 c ≡ false → eqb 14 c ≡ false → eqb 21 c ≡ false → eqb 22 c ≡ false → Quiet c (header limit)
 unfolding header widthLine rest arrayLine element

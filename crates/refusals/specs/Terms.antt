@@ -1,25 +1,40 @@
--- Document 01's table of refusals, in words of the grammar.
+-- The words that the claims on refusals are stated in, beside the grammar's and those of the other claims. No reader is in them.
 use mathlib.Core.Path.{_≡_}
-use mathlib.Core.Logic.{_↔_, _⊎_}
-use Prim.Native.Nat.{ℕ, _*_, _≤_, _<_}
-use mathlib.Core.Option.{none, some}
+use mathlib.Core.Logic.{_⊎_}
+use Prim.Native.Nat.{ℕ, zero, suc, _+_, _*_, _/_, _≤_, _<_}
+use mathlib.Core.Bool.{Bool, true, false}
+use mathlib.Core.Option.{Option, none, some}
 use mathlib.Core.List.{List, [], _∷_, _++_}
-use lib.ListN.{length}
+use lib.ListN.{length, drop}
 use lib.IntN.{ℤ}
 use Rattle.text.specs.declared.TextLocation.{TextLocation}
 use Rattle.text.specs.Ascii.{ascii}
-use Rattle.text.specs.Outcome.{Outcome, refused, unplaced}
+use Rattle.text.specs.Outcome.{Outcome, accepted, refused, unplaced}
 use Rattle.header.specs.Header.{Head}
-use Rattle.image.specs.Reading.{reading}
+use Rattle.decoder.specs.declared.XbmStreamDecoder.{XbmStreamDecoder}
 use Rattle.grammar.specs.Lang.{Lang, Word, Lit, _·_, All, Star}
-use Rattle.grammar.specs.Grammar.{Mask, solid, Decimal, Side, Coordinate, Skipped, Define, Symbol, Header, Data, Closing, Format}
-use Rattle.claims.specs.Terms.{Begun, W, rows}
+use Rattle.grammar.specs.Grammar.{Mask, blank, solid, Loose, Decimal, Side, Coordinate, Skipped, Define, Symbol, Byte}
+use Rattle.claims.specs.Terms.{Begun, W, rows, Opening}
 
--- any integer token, before it is read
+-- ---- answers
+
+-- a refusal with this number, at some place
+abbrev pub Placed : {A : Type 0} → Outcome A → ℕ → Type 0
+Placed a c = (p : TextLocation) × (a ≡ refused c p)
+
+-- the numbers of document 01's table that a reading may tell: 1 to 8 with a place; the others without one
+abbrev pub InTable : Outcome Head → Type 0
+InTable (accepted h) = Unit {0}
+InTable (refused c p) = (1 ≤ c) × (c ≤ 8)
+InTable (unplaced c) = (c ≡ 11) ⊎ ((c ≡ 12) ⊎ ((c ≡ 13) ⊎ ((c ≡ 14) ⊎ ((c ≡ 21) ⊎ ((c ≡ 22) ⊎ (c ≡ 31))))))
+
+-- ---- the parts of a header
+
+-- any integer token, whatever it says
 abbrev pub Token : Lang
 Token w = All solid w × (length w ≤ 11)
 
--- the parts of a header one after another, with any integer in the last line
+-- the header up to the end of its first, second, third and fourth define line, with integer i in that line; Sides is the second with its side
 abbrev pub Front : ℕ → List ℕ → Lang → Lang
 Front limit name i = Star Skipped · Define (Symbol limit name) i
 
@@ -35,39 +50,59 @@ Third limit m i = Sides limit m · Define (Word (m .name ++ ascii "_x_hot")) i
 abbrev pub Fourth : ℕ → Mask → ℤ → Lang → Lang
 Fourth limit m x i = Third limit m (Coordinate x) · Define (Word (m .name ++ ascii "_y_hot")) i
 
+-- a text does not begin so
 abbrev pub No : Lang → List ℕ → Type 0
 No L t = Begun L t → ⊥
 
--- w is no such integer
+-- a token that writes no side, not even 0; one that writes no coordinate
 abbrev pub NoSide : List ℕ → Type 0
 NoSide w = (n : ℕ) → Decimal n w → n < 4294967296 → ⊥
 
 abbrev pub NoCoordinate : List ℕ → Type 0
 NoCoordinate w = (z : ℤ) → Coordinate z w → ⊥
 
-abbrev pub Placed : Outcome Head → ℕ → Type 0
-Placed a c = (p : TextLocation) × (a ≡ refused c p)
-
--- the data bytes that are read: the picture's, or those of the buffer's rows and one more
+-- after k data bytes another is read: the picture has more, and of the buffer's rows not more than all are filled
 abbrev pub Wanted : Mask → List ℕ → ℕ → Type 0
 Wanted m pixels k = (k < W m * m .height) × (k ≤ W m * rows m pixels)
 
-pub record Refusals (text name pixels : List ℕ) (a : Outcome Head) : Type 0 where
-  pub n1 : Placed a 1 ↔ ((s : List ℕ) → No (Front (length name) s Token) text)
-  pub n11 : (a ≡ unplaced 11) ↔ ((s : List ℕ) × (w : List ℕ) × Begun (Front (length name) s (Word w)) text × Token w × NoSide w)
-  pub n21 : (a ≡ unplaced 21) ↔ ((s : List ℕ) × Begun (Front (length name) s (Decimal 0)) text)
-  pub n2 : Placed a 2 ↔ ((m : Mask) × Begun (Front (length name) (m .name) (Side (m .width))) text × No (Second (length name) m Token) text)
-  pub n12 : (a ≡ unplaced 12) ↔ ((m : Mask) × (w : List ℕ) × Begun (Second (length name) m (Word w)) text × Token w × NoSide w)
-  pub n22 : (a ≡ unplaced 22) ↔ ((m : Mask) × Begun (Second (length name) m (Decimal 0)) text)
-  pub n3 : Placed a 3 ↔ ((m : Mask) × Begun (Sides (length name) m · Lit "#") text × No (Third (length name) m Token) text)
-  pub n13 : (a ≡ unplaced 13) ↔ ((m : Mask) × (w : List ℕ) × Begun (Third (length name) m (Word w)) text × Token w × NoCoordinate w)
-  pub n4 : Placed a 4 ↔ ((m : Mask) × (x : ℤ) × Begun (Third (length name) m (Coordinate x)) text × No (Fourth (length name) m x Token) text)
-  pub n14 : (a ≡ unplaced 14) ↔ ((m : Mask) × (x : ℤ) × (w : List ℕ) × Begun (Fourth (length name) m x (Word w)) text × Token w × NoCoordinate w)
-  pub n5 : Placed a 5 ↔ ((m : Mask) × No (Header (length name) m) text × (((m .hot ≡ none) × Begun (Sides (length name) m) text × No (Sides (length name) m · Lit "#") text) ⊎ ((x : ℤ) × (y : ℤ) × (m .hot ≡ some (x, y)) × Begun (Fourth (length name) m x (Coordinate y)) text)))
-  pub n6 : Placed a 6 ↔ ((m : Mask) × Wanted m pixels (length (m .bytes)) × Begun (Header (length name) m · Data (m .bytes)) text × ((b : ℕ) → No (Header (length name) m · Data (m .bytes ++ (b ∷ []))) text))
-  pub n7 : Placed a 7 ↔ ((m : Mask) × (m .height ≤ rows m pixels) × (length (m .bytes) ≡ W m * m .height) × Begun (Header (length name) m · Data (m .bytes)) text × No (Header (length name) m · Data (m .bytes) · Closing) text)
-  pub n8 : Placed a 8 ↔ ((m : Mask) × (m .height ≤ rows m pixels) × (length (m .bytes) ≡ W m * m .height) × Begun (Header (length name) m · Data (m .bytes) · Closing) text × (Format (length name) m text → ⊥))
+-- ---- decoders
 
--- the claim
-abbrev pub Numbers : Type 0
-Numbers = (text name pixels : List ℕ) → Refusals text name pixels (reading text name pixels .answer)
+-- a foreign decoder, a condition a line
+pub data Foreign (t : List ℕ) (d : XbmStreamDecoder) : Type 0 where
+  no-width : d .width ≡ 0 → Foreign t d
+  no-height : d .height ≡ 0 → Foreign t d
+  position : (d .width + 7) / 8 * d .height < d .«current_position» → Foreign t d
+  byte : length t < d .location .byte .0 → Foreign t d
+  column : d .location .byte .0 < d .location .column .0 → Foreign t d
+  line : d .location .byte .0 + 1 < d .location .line .0 → Foreign t d
+
+-- the data bytes of its picture
+abbrev pub sizeOf : XbmStreamDecoder → ℕ
+sizeOf d = (d .width + 7) / 8 * d .height
+
+-- the text from its place on
+abbrev pub ahead : List ℕ → XbmStreamDecoder → List ℕ
+ahead t d = drop (d .location .byte .0) t
+
+-- the same with another position and place
+abbrev pub moved : XbmStreamDecoder → ℕ → TextLocation → XbmStreamDecoder
+moved d k p = record { width = d .width; height = d .height; «current_position» = k; location = p }
+
+-- the data byte b where k are spent: the first, or one with a comma before it
+abbrev pub Item : ℕ → ℕ → Lang
+Item zero b = Loose · Byte b
+Item (suc k) b = Loose · Lit "," · Loose · Byte b
+
+-- ---- the name buffer
+
+-- a text does not begin with a byte of this class
+abbrev pub NotNext : (ℕ → Bool) → List ℕ → Type 0
+NotNext g [] = Unit {0}
+NotNext g (b ∷ t) = g b ≡ false
+
+-- the symbol bytes of a text for a buffer of so many bytes: none, where the text opens no symbol;
+-- else the solid bytes after the opening's gap, to their end or to the buffer's
+pub data Stores (limit : ℕ) (t : List ℕ) : List ℕ → Type 0 where
+  unopened : ((u v : List ℕ) → t ≡ u ++ v → Opening u → ⊥) → Stores limit t []
+  opened : (u w v : List ℕ) → t ≡ u ++ (w ++ v) → Opening u → NotNext blank (w ++ v) → All solid w
+      → (NotNext solid v × (length w ≤ limit)) ⊎ (length w ≡ limit) → Stores limit t w

@@ -1,0 +1,152 @@
+-- THE CLAIMS ON REFUSALS: which number comes, of a text and of a lent decoder, and what is left in the decoder and in the name buffer. To believe
+-- them, read the grammar (Lang, Grammar), the words (Terms here and in claims) and this file. No reader stands in a statement but `reading` and
+-- `stepOf`, which the contracts of the code cite. Every proof below is a citation. Where a refusal is told: places.
+use mathlib.Core.Path.{_≡_}
+use mathlib.Core.Logic.{_↔_, _⊎_}
+use Prim.Native.Nat.{ℕ, _+_, _-_, _*_, _≤_, _<_}
+use mathlib.Core.Option.{none, some}
+use mathlib.Core.List.{List, [], _∷_, _++_}
+use lib.ListN.{length, take}
+use lib.IntN.{ℤ}
+use Rattle.text.specs.declared.TextLocation.{TextLocation}
+use Rattle.text.specs.Place.{byteOf, past}
+use Rattle.text.specs.Outcome.{Outcome, accepted, refused, unplaced}
+use Rattle.header.specs.Header.{Head}
+use Rattle.decoder.specs.declared.XbmStreamDecoder.{XbmStreamDecoder}
+use Rattle.decoder.specs.Step.{Step, stepOf}
+use Rattle.image.specs.Reading.{reading}
+use Rattle.grammar.specs.Lang.{Word, Lit, _·_}
+use Rattle.grammar.specs.Grammar.{Mask, Loose, Decimal, Side, Coordinate, Header, Data, Closing, Format}
+use Rattle.claims.specs.Terms.{Begun, W, rows, Mismatched, over}
+use Rattle.claims.specs.Mismatch
+use Rattle.refusals.specs.Terms.{Placed, InTable, Token, Front, Second, Sides, Third, Fourth, No, NoSide, NoCoordinate, Wanted, Foreign, sizeOf, ahead, moved, Item, Stores}
+use Rattle.refusals.specs.Table
+use Rattle.refusals.specs.HeaderRows
+use Rattle.refusals.specs.HotspotRows
+use Rattle.refusals.specs.ArrayRow
+use Rattle.refusals.specs.DataRows
+use Rattle.refusals.specs.Calls
+use Rattle.refusals.specs.CallRows
+use Rattle.refusals.specs.Stored
+
+-- 1. NUMBERS. Document 01's table of refusals, a row a number: it comes exactly if all before it stands at the text's start and its own condition holds.
+pub record Refusals (text name pixels : List ℕ) (a : Outcome Head) : Type 0 where
+  -- no leading lines and width line, whatever its token says
+  pub n1 : Placed a 1 ↔ ((s : List ℕ) → No (Front (length name) s Token) text)
+  -- its token is no integer in range; it is zero
+  pub n11 : (a ≡ unplaced 11) ↔ ((s : List ℕ) × (w : List ℕ) × Begun (Front (length name) s (Word w)) text × Token w × NoSide w)
+  pub n21 : (a ≡ unplaced 21) ↔ ((s : List ℕ) × Begun (Front (length name) s (Decimal 0)) text)
+  -- a width line, and no height line, whatever its token says; its token; zero
+  pub n2 : Placed a 2
+      ↔ ((m : Mask) × Begun (Front (length name) (m .name) (Side (m .width))) text × No (Second (length name) m Token) text)
+  pub n12 : (a ≡ unplaced 12) ↔ ((m : Mask) × (w : List ℕ) × Begun (Second (length name) m (Word w)) text × Token w × NoSide w)
+  pub n22 : (a ≡ unplaced 22) ↔ ((m : Mask) × Begun (Second (length name) m (Decimal 0)) text)
+  -- after the sides a `#`, and no line for `_x_hot`; its token
+  pub n3 : Placed a 3 ↔ ((m : Mask) × Begun (Sides (length name) m · Lit "#") text × No (Third (length name) m Token) text)
+  pub n13 : (a ≡ unplaced 13) ↔ ((m : Mask) × (w : List ℕ) × Begun (Third (length name) m (Word w)) text × Token w × NoCoordinate w)
+  -- after that line none for `_y_hot`; its token
+  pub n4 : Placed a 4
+      ↔ ((m : Mask) × (x : ℤ) × Begun (Third (length name) m (Coordinate x)) text × No (Fourth (length name) m x Token) text)
+  pub n14 : (a ≡ unplaced 14)
+      ↔ ((m : Mask) × (x : ℤ) × (w : List ℕ) × Begun (Fourth (length name) m x (Word w)) text × Token w × NoCoordinate w)
+  -- after the sides no `#`, or after the hotspot, and no array line
+  pub n5 : Placed a 5
+      ↔ ((m : Mask) × No (Header (length name) m) text
+        × (((m .hot ≡ none) × Begun (Sides (length name) m) text × No (Sides (length name) m · Lit "#") text)
+          ⊎ ((x : ℤ) × (y : ℤ) × (m .hot ≡ some (x, y)) × Begun (Fourth (length name) m x (Coordinate y)) text)))
+  -- the header and some data bytes, another is wanted, and none stands there
+  pub n6 : Placed a 6
+      ↔ ((m : Mask) × Wanted m pixels (length (m .bytes)) × Begun (Header (length name) m · Data (m .bytes)) text
+        × ((b : ℕ) → No (Header (length name) m · Data (m .bytes ++ (b ∷ []))) text))
+  -- all data bytes, rows enough for them, and no closing
+  pub n7 : Placed a 7
+      ↔ ((m : Mask) × (m .height ≤ rows m pixels) × (length (m .bytes) ≡ W m * m .height)
+        × Begun (Header (length name) m · Data (m .bytes)) text × No (Header (length name) m · Data (m .bytes) · Closing) text)
+  -- the closing too, and what follows it is not loose space alone
+  pub n8 : Placed a 8
+      ↔ ((m : Mask) × (m .height ≤ rows m pixels) × (length (m .bytes) ≡ W m * m .height)
+        × Begun (Header (length name) m · Data (m .bytes) · Closing) text × (Format (length name) m text → ⊥))
+  -- the buffer's rows are not the picture's
+  pub n31 : (a ≡ unplaced 31) ↔ Mismatched (length name) text pixels
+
+pub numbers : (text name pixels : List ℕ) → Refusals text name pixels (reading text name pixels .answer)
+numbers t name pixels = record {
+  n1 = HeaderRows.row-1 t name pixels;
+  n11 = HeaderRows.row-11 t name pixels;
+  n21 = HeaderRows.row-21 t name pixels;
+  n2 = HeaderRows.row-2 t name pixels;
+  n12 = HeaderRows.row-12 t name pixels;
+  n22 = HeaderRows.row-22 t name pixels;
+  n3 = HotspotRows.row-3 t name pixels;
+  n13 = HotspotRows.row-13 t name pixels;
+  n4 = HotspotRows.row-4 t name pixels;
+  n14 = HotspotRows.row-14 t name pixels;
+  n5 = ArrayRow.row-5 t name pixels;
+  n6 = DataRows.row-6 t name pixels;
+  n7 = DataRows.row-7 t name pixels;
+  n8 = DataRows.row-8 t name pixels;
+  n31 = Mismatch.exactly-31 t name pixels;
+}
+
+-- And no other number comes: with `accepts` these rows are all that can be answered.
+pub no-other : (text name pixels : List ℕ) → InTable (reading text name pixels .answer)
+no-other = Table.in-table
+
+-- 2. DECODERS. 9 comes exactly of a foreign decoder, which then stays as it is.
+pub nine : (text : List ℕ) (d : XbmStreamDecoder) → (stepOf text d .answer ≡ unplaced 9) ↔ Foreign text d
+nine = Calls.nine
+
+pub stays : (text : List ℕ) (d : XbmStreamDecoder) → Foreign text d → stepOf text d .decoder ≡ d
+stays = Calls.unchanged
+
+-- A call on any other decoder, by what stands in the text from its place on.
+pub record Called (text : List ℕ) (d : XbmStreamDecoder) (call : Step) : Type 0 where
+  -- a data byte is left, and it stands there: it is given, one more is spent, and the decoder stands after it
+  pub gives : (b : ℕ) → (call .answer ≡ accepted (some b))
+      ↔ ((d .«current_position» < sizeOf d) × Begun (Item (d .«current_position») b) (ahead text d))
+  pub after : (b : ℕ) (w v : List ℕ) → d .«current_position» < sizeOf d → ahead text d ≡ w ++ v → Item (d .«current_position») b w
+      → call .decoder ≡ moved d (d .«current_position» + 1) (past (d .location) w)
+  -- none stands there: 6
+  pub n6 : Placed (call .answer) 6 ↔ ((d .«current_position» < sizeOf d) × ((b : ℕ) → No (Item (d .«current_position») b) (ahead text d)))
+  -- none is left, and the trailer stands there to the text's end: nothing is given, and the decoder stands at the end
+  pub done : (call .answer ≡ accepted none) ↔ ((d .«current_position» ≡ sizeOf d) × (Closing · Loose) (ahead text d))
+  pub ended : d .«current_position» ≡ sizeOf d → (Closing · Loose) (ahead text d)
+      → call .decoder ≡ moved d (d .«current_position») (past (d .location) (ahead text d))
+  -- no closing stands there: 7; one does, with more behind it than loose space: 8
+  pub n7 : Placed (call .answer) 7 ↔ ((d .«current_position» ≡ sizeOf d) × No Closing (ahead text d))
+  pub n8 : Placed (call .answer) 8
+      ↔ ((d .«current_position» ≡ sizeOf d) × Begun Closing (ahead text d) × ((Closing · Loose) (ahead text d) → ⊥))
+  -- the place of a refusal is past some of these bytes
+  pub there : (c : ℕ) (p : TextLocation) → call .answer ≡ refused c p
+      → (byteOf (d .location) ≤ byteOf p) × (byteOf p ≤ length text) × (p ≡ past (d .location) (take (byteOf p - byteOf (d .location)) (ahead text d)))
+
+pub calls : (text : List ℕ) (d : XbmStreamDecoder) → (Foreign text d → ⊥) → Called text d (stepOf text d)
+calls t d h = record {
+  gives = CallRows.gives t d h;
+  after = CallRows.after-byte t d h;
+  n6 = CallRows.row-6 t d h;
+  done = CallRows.done t d h;
+  ended = CallRows.after-end t d h;
+  n7 = CallRows.row-7 t d h;
+  n8 = CallRows.row-8 t d h;
+  there = CallRows.there t d h;
+}
+
+-- A refused call has spent its data byte, if one was left, and stands at the place told.
+pub goes-on : (text : List ℕ) (d : XbmStreamDecoder) (c : ℕ) (p : TextLocation) → stepOf text d .answer ≡ refused c p
+    → (d .«current_position» < sizeOf d → stepOf text d .decoder ≡ moved d (d .«current_position» + 1) p)
+    × (sizeOf d ≤ d .«current_position» → stepOf text d .decoder ≡ moved d (d .«current_position») p)
+goes-on = Calls.goes-on
+
+-- A call after a sound trailer meets the end and gives 7, where the decoder stands, and it stays there.
+pub seven : (text : List ℕ) (d : XbmStreamDecoder) → stepOf text d .answer ≡ accepted none
+    → (stepOf text (stepOf text d .decoder) .answer ≡ refused 7 (stepOf text d .decoder .location))
+    × (stepOf text (stepOf text d .decoder) .decoder ≡ stepOf text d .decoder)
+seven = Calls.seven
+
+-- 3. THE NAME BUFFER. Every text has its symbol bytes, and the buffer later holds these from its start on, the rest as lent.
+pub symbols : (text name : List ℕ) → (w : List ℕ) × Stores (length name) text w
+symbols = Stored.symbols
+
+pub stores : (text name pixels w : List ℕ) → Stores (length name) text w → reading text name pixels .symbol ≡ over w name
+stores = Stored.stores
