@@ -91,7 +91,6 @@ fourth-numbered : (limit : ℕ) → Numbered 1 4 11 22 (fourth limit)
 unfolding fourth third second first widthLine
 fourth-numbered limit = search numbers depth 80 fits 40000
 
-
 -- what a fourth line's end says of the name
 spotted-name : (limit : ℕ) (c : Five) (w : List ℕ) → Spotted limit c w → All solid (c .0 .0 .0 .0)
 spotted-name limit c w k = unfold _·_ in (let (u, v, q, x, y) = k in crossed-name limit (c .0) u x)
