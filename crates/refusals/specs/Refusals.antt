@@ -18,7 +18,7 @@ use Rattle.grammar.specs.Lang.{_·_}
 use Rattle.grammar.specs.Grammar.{Loose, Closing}
 use Rattle.claims.specs.Terms.{Begun, Mismatched, over}
 use Rattle.claims.specs.Mismatch
-use Rattle.refusals.specs.Terms.{Placed, InTable, NoWidthLine, BadWidth, ZeroWidth, NoHeightLine, BadHeight, ZeroHeight, NoXLine, BadX, NoYLine, BadY, NoArrayLine, NoDataByte, NoClosing, MoreBehind, No, Foreign, sizeOf, ahead, moved, Item, Stores}
+use Rattle.refusals.specs.Terms.{Placed, InTable, NoWidthLine, BadWidth, ZeroWidth, NoHeightLine, BadHeight, ZeroHeight, NoXLine, BadX, NoYLine, BadY, NoArrayLine, NoDataByte, NoClosing, MoreBehind, No, Foreign, sizeOf, ahead, moved, Spent, Item, Stores}
 use Rattle.refusals.specs.Table
 use Rattle.refusals.specs.HeaderRows
 use Rattle.refusals.specs.HotspotRows
@@ -111,8 +111,7 @@ calls t d h = record {
 
 -- A refused call has spent its data byte, if one was left, and stands at the place told.
 pub goes-on : (text : List ℕ) (d : XbmStreamDecoder) (c : ℕ) (p : TextLocation) → stepOf text d .answer ≡ refused c p
-    → (d .«current_position» < sizeOf d → stepOf text d .decoder ≡ moved d (d .«current_position» + 1) p)
-    × (sizeOf d ≤ d .«current_position» → stepOf text d .decoder ≡ moved d (d .«current_position») p)
+    → (k : ℕ) × Spent d k × (stepOf text d .decoder ≡ moved d k p)
 goes-on = Calls.goes-on
 
 -- A call after a sound trailer meets the end and gives 7, where the decoder stands, and it stays there.

@@ -148,6 +148,10 @@ ahead t d = drop (d .location .byte .0) t
 abbrev pub moved : XbmStreamDecoder → ℕ → TextLocation → XbmStreamDecoder
 moved d k p = record { width = d .width; height = d .height; «current_position» = k; location = p }
 
+-- its position after a refused call: one more, if a data byte was left
+abbrev pub Spent : XbmStreamDecoder → ℕ → Type 0
+Spent d k = ((d .«current_position» < sizeOf d) × (k ≡ d .«current_position» + 1)) ⊎ ((sizeOf d ≤ d .«current_position») × (k ≡ d .«current_position»))
+
 -- the data byte b where k are spent: the first, or one with a comma before it
 abbrev pub Item : ℕ → ℕ → Lang
 Item zero b = Loose · Byte b
