@@ -17,7 +17,8 @@ const CELLS_SIZE: usize = CELL_LIMIT as usize;
 // Room for every listing.
 const OUT_SIZE: usize = 133;
 
-// Lists the input, of which the first n bytes of `text` are as much as it has room for. The answer is how much of `out` was written.
+// Lists the input, of which the first n bytes of `text` are all or as much as it has room for.
+// The answer is how many bytes of `out` are the listing.
 fn list_input(
     text: &[u8; TEXT_SIZE],
     n: usize,
@@ -26,7 +27,8 @@ fn list_input(
     out: &mut [u8; OUT_SIZE],
 ) -> usize
     requires { ⌜ n ≤ length (now text) ⌝ }
-    ensures { λ r. ⌜ ListsInput (now (text .entry)) n (now (name .entry)) (now (cells .entry)) (now (out .entry)) (now (name .exit)) (now (cells .exit)) (now (out .exit)) r ⌝ }
+    ensures { λ r. ⌜ ListsInput (now (text .entry)) n (now (name .entry)) (now (cells .entry)) (now (out .entry))
+        (now (name .exit)) (now (cells .exit)) (now (out .exit)) r ⌝ }
 {
     let buffer: &[u8] = text;
     list(&buffer[..n], name, cells, out)
