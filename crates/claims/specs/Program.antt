@@ -25,6 +25,7 @@ use Rattle.print.specs.Output.{joined}
 use Rattle.listing.specs.Listing.{cellsOf, inkOf, acceptedText, printed, Listed, afterHeader, listed, listing}
 use Rattle.grammar.specs.Grammar.{Mask, Header, Format}
 use Rattle.claims.specs.Terms.{headOf, Last, Begun, Lines}
+use Rattle.listing.specs.Sizes
 use Rattle.claims.specs.Listings
 use Rattle.claims.specs.Masks.{table, given, wanted}
 use Rattle.claims.specs.Limits as Limit
@@ -91,3 +92,7 @@ limits t name cells = record {
 -- a negative one with `-` in front, x before y.
 pub prints : (text name cells : List ℕ) → Lines (listed text name cells .told) (listed text name cells .ink) (listing text name cells)
 prints = Prints.prints
+
+-- 5. SIZE. A listing has at most 133 bytes, so that an output of as many holds every one whole.
+pub short : (text name cells : List ℕ) → length (listing text name cells) ≤ 133
+short = Sizes.listing-short
