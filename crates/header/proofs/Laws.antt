@@ -1,5 +1,5 @@
 -- What a step of the code says of the width's symbol and of the header.
-use Prim.Native.Nat.{ℕ, _-_, _≤_}
+use Prim.Native.Nat.{ℕ, _+_, _-_, _≤_}
 use native.Mathlib.Omega.{arith}
 use mathlib.Core.Path.{_≡_, refl, sym}
 use mathlib.Core.List.{List}
@@ -8,7 +8,8 @@ use lib.ListN.{length, take}
 use lib.Seq.{length-take-le, take-take}
 use Rattle.text.specs.declared.TextLocation.{TextLocation}
 use Rattle.text.specs.Place.{start}
-use Rattle.text.specs.Reader.{Result, ok, stop, bad, Reader, _>>=_, _>>_, Told, accepted, refused, unplaced, shown}
+use Rattle.text.specs.Reader.{Result, ok, stop, bad, Reader, _>>=_, _>>_}
+use Rattle.text.specs.Outcome.{Outcome, accepted, refused, unplaced, Ended, ending-at, shown}
 use Rattle.text.specs.Leaf.{want}
 use Rattle.lexical.specs.declared.XbmPart.{XbmPart}
 use Rattle.lexical.specs.declared.XbmPart.the-variants.{Width}
@@ -16,15 +17,17 @@ use Rattle.lexical.specs.declared.Passed.{Passed}
 use Rattle.lexical.specs.declared.Passed.the-variants.{To, Refused as Stopped}
 use Rattle.lexical.specs.declared.Token.{Token}
 use Rattle.lexical.specs.declared.Token.the-variants.{Read, Refused as Long}
-use Rattle.lexical.specs.Lexical.{isLoose, told, onto}
+use Rattle.lexical.specs.Lexical.{isLoose, number, told, onto}
 use Rattle.lexical.specs.Token.{Tokened, sizeOf}
 use Rattle.text.proofs.Reading.{give-ok}
-use Rattle.lexical.proofs.Laws.{row-first, pass-to, pass-refused}
+use Rattle.lexical.proofs.Laws.{number-fits, row-first, pass-to, pass-refused}
 use Rattle.lexical.proofs.Tokens.{token-fits, token-size, token·laws}
 use Rattle.header.specs.Header.{Head, endWidth, endsWith, before, opening, header}
-use Rattle.header.specs.Answer.{toldError, toldHeader, nameLength, stored, sidesOf, widthSymbol, Symboled, Headed}
+use Rattle.header.specs.Answer.{refusalOf, toldRefusal, toldError, toldHeader, nameLength, stored, sidesOf, widthSymbol, Symboled, Headed}
 use Rattle.header.specs.declared.XbmDecodeError.{XbmDecodeError}
-use Rattle.header.specs.declared.XbmDecodeError.the-variants.{Parse, DecodeInteger, ZeroWidth, ZeroHeight}
+use Rattle.header.specs.declared.XbmDecodeError.the-variants.{Parse, DecodeInteger}
+use Rattle.header.specs.declared.Refusal.{Refusal}
+use Rattle.header.specs.declared.Refusal.the-variants.{Placed, Unplaced}
 use Rattle.header.specs.declared.XbmHeaderData.{XbmHeaderData}
 use Rattle.header.specs.declared.HeaderRead.{HeaderRead}
 use Rattle.header.specs.declared.HeaderRead.the-variants.{Read as HeaderIs, Refused}
@@ -82,9 +85,20 @@ module _ (m : Token) (later : List ℕ) (e : sizeOf m ≤ length later) {n : ℕ
 
 pub ruleset size·laws = (size-fits, size-taken)
 
+-- ---- an error's number
+
+module _ {e : XbmDecodeError} where
+  pub refusal-parse : (part : XbmPart) {n : ℕ} {p : TextLocation} → e ≡ Parse part p → n ≡ number part → Placed n p ≡ refusalOf e
+  refusal-parse part h k = rw (h, k)
+
+  pub refusal-integer : (part : XbmPart) {n : ℕ} → e ≡ DecodeInteger part → n ≡ number part → Unplaced (n + 10) ≡ refusalOf e
+  refusal-integer part h k = rw (h, k)
+
+pub ruleset refusal·laws = (number-fits, refusal-parse, refusal-integer)
+
 -- the length of the name, of what is told
-abbrev toldLength : Told Head → ℕ
-toldLength (accepted h e) = length (h .name)
+abbrev toldLength : Outcome (Ended Head) → ℕ
+toldLength (accepted (ending-at h e)) = length (h .name)
 toldLength (refused c e) = 0
 toldLength (unplaced c) = 0
 
@@ -94,10 +108,11 @@ shown-length (stop c e) = refl
 shown-length (bad c e) = refl
 
 error-length : (x : XbmDecodeError) → 0 ≡ toldLength (toldError x)
-error-length (Parse part q) = refl
-error-length (DecodeInteger part) = refl
-error-length ZeroWidth = refl
-error-length ZeroHeight = refl
+error-length x = go (refusalOf x)
+  where
+    go : (r : Refusal) → 0 ≡ toldLength (toldRefusal r)
+    go (Placed c q) = refl
+    go (Unplaced c) = refl
 
 -- the header, from its width's symbol and what follows it
 module _ (t lent : List ℕ) {later : List ℕ} {r : Token} (s : Symboled t lent later r) where

@@ -10,7 +10,8 @@ use Rattle.text.specs.declared.TextLocation.{TextLocation}
 use Rattle.text.specs.declared.Took.{Took}
 use Rattle.text.specs.declared.Took.the-variants.{Next, End}
 use Rattle.text.specs.Place.{tookAt}
-use Rattle.text.specs.Reader.{Result, ok, stop, bad, Reader, then, _>>=_, Told, accepted, refused, unplaced, shown}
+use Rattle.text.specs.Reader.{Result, ok, stop, bad, Reader, then, _>>=_}
+use Rattle.text.specs.Outcome.{Outcome, accepted, refused, unplaced, Ended, ending-at, shown}
 use Rattle.text.specs.Leaf.{give, need, fork}
 use Rattle.text.proofs.Reading.{fork-first, fork-second, fork-neither, fork-end}
 use Rattle.lexical.specs.declared.XbmPart.{XbmPart}
@@ -25,9 +26,10 @@ use Rattle.integer.specs.declared.Signed.{Signed}
 use Rattle.integer.specs.declared.Signed.the-variants.{Number, Wrong}
 use Rattle.integer.specs.Decimal.{parseU32, parseI32, unsignedOf, signedOf}
 use Rattle.header.specs.Header.{value, positive}
-use Rattle.header.specs.Answer.{toldError, toldSide, toldCoordinate, toldSpot, Valued}
+use Rattle.header.specs.Answer.{refusalOf, toldRefusal, toldError, toldSide, toldCoordinate, toldSpot, Valued}
 use Rattle.header.specs.declared.XbmDecodeError.{XbmDecodeError}
-use Rattle.header.specs.declared.XbmDecodeError.the-variants.{Parse, DecodeInteger, ZeroWidth, ZeroHeight}
+use Rattle.header.specs.declared.Refusal.{Refusal}
+use Rattle.header.specs.declared.Refusal.the-variants.{Placed, Unplaced}
 use Rattle.header.specs.declared.SideRead.{SideRead}
 use Rattle.header.specs.declared.SideRead.the-variants.{Side, Refused as NoSide}
 use Rattle.header.specs.declared.CoordinateRead.{CoordinateRead}
@@ -36,8 +38,8 @@ use Rattle.header.specs.declared.HotspotRead.{HotspotRead}
 use Rattle.header.specs.declared.HotspotRead.the-variants.{Spot, Refused as NoSpot}
 
 -- what is told of a reading that goes on, of what is told of its first part
-abbrev onTold : {A B : Type 0} → Told A → (A → TextLocation → Told B) → Told B
-onTold (accepted a e) k = k a e
+abbrev onTold : {A B : Type 0} → Outcome (Ended A) → (A → TextLocation → Outcome B) → Outcome B
+onTold (accepted (ending-at a e)) k = k a e
 onTold (refused c e) k = refused c e
 onTold (unplaced c) k = unplaced c
 
@@ -47,29 +49,31 @@ shown-then (stop c e) k = refl
 shown-then (bad c e) k = refl
 
 -- an error is no acceptance
-pub error-never : {A C : Type 0} (x : XbmDecodeError) {a : A} {p : TextLocation} → toldError x ≡ accepted a p → C
-error-never (Parse part q) w = let z : _≡_ {A = ℕ} 0 1 = cc in absurd (omega arith)
-error-never (DecodeInteger part) w = let z : _≡_ {A = ℕ} 0 1 = cc in absurd (omega arith)
-error-never ZeroWidth w = let z : _≡_ {A = ℕ} 0 1 = cc in absurd (omega arith)
-error-never ZeroHeight w = let z : _≡_ {A = ℕ} 0 1 = cc in absurd (omega arith)
+pub error-never : {A C : Type 0} (x : XbmDecodeError) {a : A} → toldError x ≡ accepted a → C
+error-never {A} {C} x {a} = go (refusalOf x)
+  where
+    go : (r : Refusal) → toldRefusal r ≡ accepted a → C
+    go (Placed c q) w = let z : _≡_ {A = ℕ} 0 1 = cc in absurd (omega arith)
+    go (Unplaced c) w = let z : _≡_ {A = ℕ} 0 1 = cc in absurd (omega arith)
 
-on-error : {A B : Type 0} (x : XbmDecodeError) (k : A → TextLocation → Told B) → toldError x ≡ onTold (toldError x) k
-on-error (Parse part q) k = refl
-on-error (DecodeInteger part) k = refl
-on-error ZeroWidth k = refl
-on-error ZeroHeight k = refl
+on-error : {A B : Type 0} (x : XbmDecodeError) (k : A → TextLocation → Outcome B) → toldError x ≡ onTold (toldError x) k
+on-error x k = go (refusalOf x)
+  where
+    go : (r : Refusal) → toldRefusal r ≡ onTold (toldRefusal r) k
+    go (Placed c q) = refl
+    go (Unplaced c) = refl
 
-module _ {A B : Type 0} (p : Reader A) (f : A → Reader B) (t : List ℕ) (i : TextLocation) {z : Told B} where
-  show-accepted : {a : A} {q : TextLocation} → accepted a q ≡ shown (p t i) → z ≡ shown (f a t q) → z ≡ shown ((p >>= f) t i)
+module _ {A B : Type 0} (p : Reader A) (f : A → Reader B) (t : List ℕ) (i : TextLocation) {z : Outcome (Ended B)} where
+  show-accepted : {a : A} {q : TextLocation} → accepted (ending-at a q) ≡ shown (p t i) → z ≡ shown (f a t q) → z ≡ shown ((p >>= f) t i)
   unfolding _>>=_
   show-accepted e k = rw (shown-then (p t i) (λ a e. f a t e), ← e) k
 
   show-error : (x : XbmDecodeError) → toldError x ≡ shown (p t i) → z ≡ toldError x → z ≡ shown ((p >>= f) t i)
   unfolding _>>=_
-  show-error x e k = rw (shown-then (p t i) (λ a e. f a t e), ← e, ← on-error {A = A} {B = B} x (λ a e. shown (f a t e))) k
+  show-error x e k = rw (shown-then (p t i) (λ a e. f a t e), ← e, ← on-error {A = A} {B = Ended B} x (λ a e. shown (f a t e))) k
 
 -- the answers, one by one
-module _ {B : Type 0} (p : Reader (Unit {0})) (f : Unit {0} → Reader B) (t : List ℕ) (i : TextLocation) {m : Passed} {z : Told B} (e : told m ≡ p t i) where
+module _ {B : Type 0} (p : Reader (Unit {0})) (f : Unit {0} → Reader B) (t : List ℕ) (i : TextLocation) {m : Passed} {z : Outcome (Ended B)} (e : told m ≡ p t i) where
   pub show-to : {q : TextLocation} → m ≡ To q → z ≡ shown (f tt t q) → z ≡ shown ((p >>= f) t i)
   unfolding _>>=_
   show-to h k = rw (← e, h) k
@@ -78,7 +82,7 @@ module _ {B : Type 0} (p : Reader (Unit {0})) (f : Unit {0} → Reader B) (t : L
   unfolding _>>=_
   show-stopped h k = rw (← e, h) k
 
-module _ {B : Type 0} (c : ℕ) (f : List ℕ → Reader B) {t : List ℕ} {i : TextLocation} {later : List ℕ} {m : Token} {z : Told B} (e : Valued c t i later m) where
+module _ {B : Type 0} (c : ℕ) (f : List ℕ → Reader B) {t : List ℕ} {i : TextLocation} {later : List ℕ} {m : Token} {z : Outcome (Ended B)} (e : Valued c t i later m) where
   pub show-read : {n : ℕ} {q : TextLocation} → m ≡ Read n q → z ≡ shown (f (take n later) t q) → z ≡ shown ((value c give >>= f) t i)
   unfolding _>>=_
   show-read h k = rw (← e .answer, h) k
@@ -87,21 +91,21 @@ module _ {B : Type 0} (c : ℕ) (f : List ℕ → Reader B) {t : List ℕ} {i : 
   unfolding _>>=_
   show-long h k = rw (← e .answer, h) k
 
-module _ {B : Type 0} (p : Reader ℕ) (f : ℕ → Reader B) (t : List ℕ) (i : TextLocation) {m : SideRead} {z : Told B} (e : toldSide m ≡ shown (p t i)) where
+module _ {B : Type 0} (p : Reader ℕ) (f : ℕ → Reader B) (t : List ℕ) (i : TextLocation) {m : SideRead} {z : Outcome (Ended B)} (e : toldSide m ≡ shown (p t i)) where
   pub show-side : {n : ℕ} {q : TextLocation} → m ≡ Side n q → z ≡ shown (f n t q) → z ≡ shown ((p >>= f) t i)
   show-side h k = show-accepted p f t i (rw h at e) k
 
   pub show-no-side : {x : XbmDecodeError} → m ≡ NoSide x → z ≡ toldError x → z ≡ shown ((p >>= f) t i)
   show-no-side {x} h k = show-error p f t i x (rw h at e) k
 
-module _ {B : Type 0} (p : Reader ℤ) (f : ℤ → Reader B) (t : List ℕ) (i : TextLocation) {m : CoordinateRead} {z : Told B} (e : toldCoordinate m ≡ shown (p t i)) where
+module _ {B : Type 0} (p : Reader ℤ) (f : ℤ → Reader B) (t : List ℕ) (i : TextLocation) {m : CoordinateRead} {z : Outcome (Ended B)} (e : toldCoordinate m ≡ shown (p t i)) where
   pub show-coordinate : {n : ℤ} {q : TextLocation} → m ≡ Coordinate n q → z ≡ shown (f n t q) → z ≡ shown ((p >>= f) t i)
   show-coordinate h k = show-accepted p f t i (rw h at e) k
 
   pub show-no-coordinate : {x : XbmDecodeError} → m ≡ NoCoordinate x → z ≡ toldError x → z ≡ shown ((p >>= f) t i)
   show-no-coordinate {x} h k = show-error p f t i x (rw h at e) k
 
-module _ {B : Type 0} (p : Reader (ℤ × ℤ)) (f : ℤ × ℤ → Reader B) (t : List ℕ) (i : TextLocation) {m : HotspotRead} {z : Told B} (e : toldSpot m ≡ shown (p t i)) where
+module _ {B : Type 0} (p : Reader (ℤ × ℤ)) (f : ℤ × ℤ → Reader B) (t : List ℕ) (i : TextLocation) {m : HotspotRead} {z : Outcome (Ended B)} (e : toldSpot m ≡ shown (p t i)) where
   pub show-spot : {x y : ℤ} {q : TextLocation} → m ≡ Spot x y q → z ≡ shown (f (x, y) t q) → z ≡ shown ((p >>= f) t i)
   show-spot h k = show-accepted p f t i (rw h at e) k
 
@@ -109,12 +113,12 @@ module _ {B : Type 0} (p : Reader (ℤ × ℤ)) (f : ℤ × ℤ → Reader B) (t
   show-no-spot {x} h k = show-error p f t i x (rw h at e) k
 
 -- a value; an integer of a token; a side that must not be zero
-pub show-give : {A : Type 0} (a : A) (t : List ℕ) (i : TextLocation) {z : Told A} → z ≡ accepted a i → z ≡ shown (give a t i)
+pub show-give : {A : Type 0} (a : A) (t : List ℕ) (i : TextLocation) {z : Outcome (Ended A)} → z ≡ accepted (ending-at a i) → z ≡ shown (give a t i)
 unfolding give
 show-give a t i e = e
 
-module _ (c : ℕ) (w : List ℕ) (t : List ℕ) (i : TextLocation) {m : Unsigned} (e : m ≡ parseU32 w) {z : Told ℕ} where
-  pub show-value : {n : ℕ} → m ≡ Value n → z ≡ accepted n i → z ≡ shown (need c (unsignedOf (parseU32 w)) t i)
+module _ (c : ℕ) (w : List ℕ) (t : List ℕ) (i : TextLocation) {m : Unsigned} (e : m ≡ parseU32 w) {z : Outcome (Ended ℕ)} where
+  pub show-value : {n : ℕ} → m ≡ Value n → z ≡ accepted (ending-at n i) → z ≡ shown (need c (unsignedOf (parseU32 w)) t i)
   unfolding need
   show-value h k = rw (← e, h) k
 
@@ -122,8 +126,8 @@ module _ (c : ℕ) (w : List ℕ) (t : List ℕ) (i : TextLocation) {m : Unsigne
   unfolding need
   show-bad h k = rw (← e, h) k
 
-module _ (c : ℕ) (w : List ℕ) (t : List ℕ) (i : TextLocation) {m : Signed} (e : m ≡ parseI32 w) {z : Told ℤ} where
-  pub show-number : {n : ℤ} → m ≡ Number n → z ≡ accepted n i → z ≡ shown (need c (signedOf (parseI32 w)) t i)
+module _ (c : ℕ) (w : List ℕ) (t : List ℕ) (i : TextLocation) {m : Signed} (e : m ≡ parseI32 w) {z : Outcome (Ended ℤ)} where
+  pub show-number : {n : ℤ} → m ≡ Number n → z ≡ accepted (ending-at n i) → z ≡ shown (need c (signedOf (parseI32 w)) t i)
   unfolding need
   show-number h k = rw (← e, h) k
 
@@ -131,7 +135,7 @@ module _ (c : ℕ) (w : List ℕ) (t : List ℕ) (i : TextLocation) {m : Signed}
   unfolding need
   show-wrong h k = rw (← e, h) k
 
-module _ {B : Type 0} (c n : ℕ) (f : ℕ → Reader B) (t : List ℕ) (i : TextLocation) {z : Told B} where
+module _ {B : Type 0} (c n : ℕ) (f : ℕ → Reader B) (t : List ℕ) (i : TextLocation) {z : Outcome (Ended B)} where
   pub show-zero : n ≡ 0 → z ≡ unplaced c → z ≡ shown ((need c (positive n) >>= f) t i)
   unfolding need positive _>>=_
   show-zero h k = rw (eq-eqb n 0 h) k
@@ -141,7 +145,7 @@ module _ {B : Type 0} (c n : ℕ) (f : ℕ → Reader B) (t : List ℕ) (i : Tex
   show-positive h k = rw (ne-eqb n 0 h) k
 
 -- a look at the next byte
-module _ {A : Type 0} (c x : ℕ) (p : Reader A) (y : ℕ) (q : Reader A) (t : List ℕ) (i : TextLocation) {r : Took} {z : Told A} (e : r ≡ tookAt t i) where
+module _ {A : Type 0} (c x : ℕ) (p : Reader A) (y : ℕ) (q : Reader A) (t : List ℕ) (i : TextLocation) {r : Took} {z : Outcome (Ended A)} (e : r ≡ tookAt t i) where
   pub show-first : {b : ℕ} {n : TextLocation} → r ≡ Next b n → b ≡ x → z ≡ shown (p t i) → z ≡ shown (fork c x p y q t i)
   show-first m h k = rw (← fork-first c x p y q t i e m h refl) k
 

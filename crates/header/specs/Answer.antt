@@ -7,7 +7,8 @@ use lib.ListN.{length, take}
 use lib.IntN.{ℤ}
 use Rattle.text.specs.declared.TextLocation.{TextLocation}
 use Rattle.text.specs.Place.{start}
-use Rattle.text.specs.Reader.{Result, ok, stop, bad, endOf, Reader, _>>=_, _>>_, Told, accepted, refused, unplaced, shown}
+use Rattle.text.specs.Reader.{Result, ok, stop, bad, endOf, Reader, _>>=_, _>>_}
+use Rattle.text.specs.Outcome.{Outcome, accepted, refused, unplaced, Ended, ending-at, shown}
 use Rattle.lexical.specs.Lexical.{isLoose, number}
 use Rattle.text.specs.Ascii.{ascii}
 use Rattle.text.specs.Leaf.{give, want, need, fork}
@@ -16,6 +17,8 @@ use Rattle.lexical.specs.Token.{token, span, overlay, toldToken, sizeOf}
 use Rattle.header.specs.Header.{Head, endWidth, before, value, unsigned, signed, positive, symbol, ending, opening, header}
 use Rattle.header.specs.declared.XbmDecodeError.{XbmDecodeError}
 use Rattle.header.specs.declared.XbmDecodeError.the-variants.{Parse, DecodeInteger, ZeroWidth, ZeroHeight}
+use Rattle.header.specs.declared.Refusal.{Refusal}
+use Rattle.header.specs.declared.Refusal.the-variants.{Placed, Unplaced}
 use Rattle.header.specs.declared.Hotspot.{Hotspot}
 use Rattle.header.specs.declared.Hotspot.the-variants.{Absent, At}
 use Rattle.header.specs.declared.XbmHeaderData.{XbmHeaderData}
@@ -29,19 +32,20 @@ use Rattle.header.specs.declared.CoordinateRead.the-variants.{Coordinate
 use Rattle.header.specs.declared.HotspotRead.{HotspotRead}
 use Rattle.header.specs.declared.HotspotRead.the-variants.{Spot, Refused as NoSpot}
 
--- a refusal's number, by document 01
-abbrev pub numberOf : XbmDecodeError → ℕ
-numberOf (Parse part p) = number part
-numberOf (DecodeInteger part) = number part + 10
-numberOf ZeroWidth = 21
-numberOf ZeroHeight = 22
+-- a refusal's number, by document 01, and its place where one is told
+abbrev pub refusalOf : XbmDecodeError → Refusal
+refusalOf (Parse part p) = Placed (number part) p
+refusalOf (DecodeInteger part) = Unplaced (number part + 10)
+refusalOf ZeroWidth = Unplaced 21
+refusalOf ZeroHeight = Unplaced 22
 
--- a refusal's number, and its place where one is told
-abbrev pub toldError : {A : Type 0} → XbmDecodeError → Told A
-toldError (Parse part p) = refused (numberOf (Parse part p)) p
-toldError (DecodeInteger part) = unplaced (numberOf (DecodeInteger part))
-toldError ZeroWidth = unplaced (numberOf ZeroWidth)
-toldError ZeroHeight = unplaced (numberOf ZeroHeight)
+-- what is told of it
+abbrev pub toldRefusal : {A : Type 0} → Refusal → Outcome A
+toldRefusal (Placed c p) = refused c p
+toldRefusal (Unplaced c) = unplaced c
+
+abbrev pub toldError : {A : Type 0} → XbmDecodeError → Outcome A
+toldError e = toldRefusal (refusalOf e)
 
 abbrev pub hotOf : Hotspot → Option (ℤ × ℤ)
 hotOf Absent = none
@@ -50,20 +54,20 @@ hotOf (At x y) = some (x, y)
 abbrev pub headOf : List ℕ → XbmHeaderData → Head
 headOf name d = record { name = name; width = d .width; height = d .height; hot = hotOf (d .hotspot) }
 
-abbrev pub toldHeader : List ℕ → HeaderRead → Told Head
-toldHeader name (Read d p) = accepted (headOf name d) p
+abbrev pub toldHeader : List ℕ → HeaderRead → Outcome (Ended Head)
+toldHeader name (Read d p) = accepted (ending-at (headOf name d) p)
 toldHeader name (Refused e) = toldError e
 
-abbrev pub toldSide : SideRead → Told ℕ
-toldSide (Side n p) = accepted n p
+abbrev pub toldSide : SideRead → Outcome (Ended ℕ)
+toldSide (Side n p) = accepted (ending-at n p)
 toldSide (NoSide e) = toldError e
 
-abbrev pub toldCoordinate : CoordinateRead → Told ℤ
-toldCoordinate (Coordinate z p) = accepted z p
+abbrev pub toldCoordinate : CoordinateRead → Outcome (Ended ℤ)
+toldCoordinate (Coordinate z p) = accepted (ending-at z p)
 toldCoordinate (NoCoordinate e) = toldError e
 
-abbrev pub toldSpot : HotspotRead → Told (ℤ × ℤ)
-toldSpot (Spot x y p) = accepted (x, y) p
+abbrev pub toldSpot : HotspotRead → Outcome (Ended (ℤ × ℤ))
+toldSpot (Spot x y p) = accepted (ending-at (x, y) p)
 toldSpot (NoSpot e) = toldError e
 
 -- the symbol's bytes that reading a text stores: those taken from where the symbol starts, none where nothing opens it

@@ -7,7 +7,9 @@ use mathlib.Core.Option.{some}
 use lib.IntN.{pos, negℤ}
 use Rattle.text.specs.Ascii.{ascii}
 use Rattle.text.specs.Place.{rest, after, placeOf, start}
-use Rattle.text.specs.Reader.{_>>=_, Told, accepted, refused, unplaced, shown}
+use Rattle.text.specs.Reader.{_>>=_}
+use Rattle.text.specs.declared.TextLocation.{TextLocation}
+use Rattle.text.specs.Outcome.{Outcome, accepted, refused, unplaced, Ended, ending-at, shown}
 use Rattle.text.specs.Leaf.{give, want, need, one, run, fork}
 use Rattle.lexical.specs.Lexical.{isBlank, isLoose, byte, skip, fixed, gap, lineEnd, leading}
 use Rattle.lexical.specs.Token.{token, span}
@@ -19,9 +21,9 @@ use Rattle.header.specs.Answer.{stored}
 record Row : Type 0 where
   room : ℕ
   text : List ℕ
-  answer : Told Head × List ℕ
+  answer : Outcome (Ended Head) × List ℕ
 
-abbrev row : ℕ → List ℕ → Told Head → String → Row
+abbrev row : ℕ → List ℕ → Outcome (Ended Head) → String → Row
 row n t a s = record { room = n; text = t; answer = (a, ascii s) }
 
 -- a text that ends with its width line; a header with both hotspot lines
@@ -44,14 +46,14 @@ rows =
     ∷ row 6 (width "9") (refused 1 (placeOf 14 1 14)) "d_widt"
     ∷ row 0 (width "9") (refused 1 (placeOf 8 1 8)) ""
     ∷ row 256 (ascii "#include\n" ++ width "9") (refused 1 (placeOf 2 1 2)) ""
-    ∷ row 256 (xHot "-2147483648") (accepted (record { name = ascii "d"; width = 9; height = 1; hot = some (negℤ (pos 2147483648), pos 0) }) (placeOf 107 5 24)) "d_width"
+    ∷ row 256 (xHot "-2147483648") (accepted (ending-at (record { name = ascii "d"; width = 9; height = 1; hot = some (negℤ (pos 2147483648), pos 0) }) (placeOf 107 5 24))) "d_width"
     ∷ row 256 (xHot "2147483648") (unplaced 13) "d_width"
     ∷ row 256 (xHot "+1") (unplaced 13) "d_width"
     ∷ row 256 (xHot "-") (unplaced 13) "d_width"
     ∷ []
 
 -- the same by the definitions
-abbrev says : Row → Told Head × List ℕ
+abbrev says : Row → Outcome (Ended Head) × List ℕ
 says r = (shown (header (r .room) (r .text) start), stored (r .room) (r .text))
 
 pub table : map says rows ≡ map (λ r. r .answer) rows

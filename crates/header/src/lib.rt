@@ -4,12 +4,12 @@ ghost use mathlib.Core.Path.{_≡_};
 ghost use Prim.Native.Nat.{_+_};
 ghost use lib.ListN.{length};
 ghost use Rattle.text.specs.Place.{start};
-ghost use Rattle.text.specs.Reader.{shown};
+ghost use Rattle.text.specs.Outcome.{shown};
 ghost use Rattle.text.specs.Leaf.{give};
 ghost use Rattle.text.specs.Ascii.{ascii};
 ghost use Rattle.lexical.specs.Lexical.{number, told, onto};
 ghost use Rattle.header.specs.Header.{endsWith, opening, symbol, element, arrayLine};
-ghost use Rattle.header.specs.Answer.{hotOf, toldSide, toldCoordinate, toldSpot, toldHeader, unsignedLine, signedLine, sideLine, coordinateLine, spot, endingOf, restOf, heightOf, sidesOf, Symboled, Valued, Headed};
+ghost use Rattle.header.specs.Answer.{refusalOf, hotOf, toldSide, toldCoordinate, toldSpot, toldHeader, unsignedLine, signedLine, sideLine, coordinateLine, spot, endingOf, restOf, heightOf, sidesOf, Symboled, Valued, Headed};
 use integer::Signed;
 use integer::Unsigned;
 use integer::parse_i32;
@@ -17,6 +17,7 @@ use integer::parse_u32;
 use lexical::Passed;
 use lexical::Token;
 use lexical::XbmPart;
+use lexical::part_number;
 use lexical::read_fixed_string;
 use lexical::read_to_newline;
 use lexical::read_until_whitespace;
@@ -45,6 +46,24 @@ pub enum XbmDecodeError {
     DecodeInteger(XbmPart),
     ZeroWidth,
     ZeroHeight,
+}
+
+// A refusal as document 01 tells it: its number, and its place where one is told.
+pub enum Refusal {
+    Placed(u32, TextLocation),
+    Unplaced(u32),
+}
+
+// The number of an error, and its place.
+pub fn refusal_of(e: XbmDecodeError) -> Refusal
+    ensures { λ r. ⌜ r ≡ refusalOf e ⌝ }
+{
+    match e {
+        XbmDecodeError::Parse(part, p) => Refusal::Placed(part_number(part), p),
+        XbmDecodeError::DecodeInteger(part) => Refusal::Unplaced(part_number(part) + 10),
+        XbmDecodeError::ZeroWidth => Refusal::Unplaced(21),
+        XbmDecodeError::ZeroHeight => Refusal::Unplaced(22),
+    }
 }
 
 pub enum Hotspot {

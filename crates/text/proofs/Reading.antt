@@ -9,7 +9,7 @@ use Rattle.text.specs.declared.TextLocation.{TextLocation}
 use Rattle.text.specs.declared.Took.{Took}
 use Rattle.text.specs.declared.Took.the-variants.{Next, End}
 use Rattle.text.specs.Place.{rest, after, tookAt}
-use Rattle.text.specs.Reader.{Result, ok, stop, bad, Reader, then, _>>=_, Told, accepted, refused, unplaced, shown}
+use Rattle.text.specs.Reader.{Result, ok, stop, bad, Reader, then, _>>=_}
 use Rattle.text.specs.Leaf.{one, run, scan, Move, go-on, stay, halt, judge, give, want, need, fork}
 use Rattle.text.proofs.Laws.{next-rest, next-after, end-rest}
 
