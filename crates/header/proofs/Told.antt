@@ -56,6 +56,22 @@ error-never {A} {C} x {a} = go (refusalOf x)
     go (Placed c q) w = let z : _≡_ {A = ℕ} 0 1 = cc in absurd (omega arith)
     go (Unplaced c) w = let z : _≡_ {A = ℕ} 0 1 = cc in absurd (omega arith)
 
+-- it is told alike, whatever was to be read
+module _ {A B : Type 0} (x : XbmDecodeError) {c : ℕ} where
+  pub error-placed : {p : TextLocation} → toldError {A = A} x ≡ refused c p → toldError {A = B} x ≡ refused c p
+  error-placed {p} = go (refusalOf x)
+    where
+      go : (r : Refusal) → toldRefusal {A = A} r ≡ refused c p → toldRefusal {A = B} r ≡ refused c p
+      go (Placed d q) w = cc
+      go (Unplaced d) w = let z : _≡_ {A = ℕ} 0 1 = cc in absurd (omega arith)
+
+  pub error-unplaced : toldError {A = A} x ≡ unplaced c → toldError {A = B} x ≡ unplaced c
+  error-unplaced = go (refusalOf x)
+    where
+      go : (r : Refusal) → toldRefusal {A = A} r ≡ unplaced c → toldRefusal {A = B} r ≡ unplaced c
+      go (Placed d q) w = let z : _≡_ {A = ℕ} 0 1 = cc in absurd (omega arith)
+      go (Unplaced d) w = cc
+
 on-error : {A B : Type 0} (x : XbmDecodeError) (k : A → TextLocation → Outcome B) → toldError x ≡ onTold (toldError x) k
 on-error x k = go (refusalOf x)
   where

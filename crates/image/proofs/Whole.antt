@@ -11,10 +11,10 @@ use borrow.Author.Tests.{eqb-false}
 use Rattle.text.specs.Ascii.{ascii}
 use Rattle.text.specs.declared.TextLocation.{TextLocation}
 use Rattle.text.specs.Place.{pick, start}
-use Rattle.text.specs.Reader.{Result, ok, stop, bad, then, Reader, _>>=_, _>>_, Told, accepted as told-ok, shown}
+use Rattle.text.specs.Reader.{Result, ok, stop, bad, then, Reader, _>>=_, _>>_}
 use Rattle.text.specs.Leaf.{give, need}
 use Rattle.text.specs.Yields.{Yields, yields-from, yields-bind, yields-give, yields-fork}
-use Rattle.text.specs.Outcome.{Outcome, accepted, refused, unplaced, outcome, placeless}
+use Rattle.text.specs.Outcome.{Outcome, accepted, refused, unplaced, outcome, Ended, ending-at, shown}
 use Rattle.lexical.specs.declared.XbmPart.{XbmPart}
 use Rattle.lexical.specs.Lexical.{number}
 use Rattle.header.specs.declared.XbmDecodeError.{XbmDecodeError}
@@ -23,7 +23,7 @@ use Rattle.header.specs.declared.XbmHeaderData.{XbmHeaderData}
 use Rattle.header.specs.declared.HeaderRead.{HeaderRead}
 use Rattle.header.specs.declared.HeaderRead.the-variants.{Read as HeadRead, Refused as HeadRefused}
 use Rattle.header.specs.declared.HeaderAnswer.{HeaderAnswer}
-use Rattle.header.proofs.Told.{error-never}
+use Rattle.header.proofs.Told.{error-never, error-placed, error-unplaced}
 use Rattle.header.specs.Header.{Head, positive, ending, rest, widthLine, header}
 use Rattle.header.specs.Answer.{headOf, toldError, toldHeader, nameLength, stored, Headed}
 use Rattle.decoder.specs.Data.{logOf}
@@ -72,10 +72,10 @@ yields-header limit =
 -- ---- what the header's answer says of the header
 
 module _ {r : Result Head} where
-  accepted-is : {h : Head} {p : TextLocation} → told-ok h p ≡ shown r → r ≡ ok h p
+  accepted-is : {h : Head} {p : TextLocation} → accepted (ending-at h p) ≡ shown r → r ≡ ok h p
   accepted-is {h} {p} = go r
     where
-      go : (r : Result Head) → told-ok h p ≡ shown r → r ≡ ok h p
+      go : (r : Result Head) → accepted (ending-at h p) ≡ shown r → r ≡ ok h p
       go (ok a e) q = cc
       go (stop c e) q = let z : _≡_ {A = ℕ} 0 1 = cc in absurd (omega arith)
       go (bad c e) q = let z : _≡_ {A = ℕ} 0 1 = cc in absurd (omega arith)
@@ -124,10 +124,10 @@ module _ (t name name′ lent : List ℕ) {h : HeaderAnswer} (k : Headed t name 
       said = rw e at (k .answer)
 
       go : (r : Result Head) (x : XbmDecodeError) → toldError x ≡ shown r
-          → placeless (toldError x) ≡ outcome (λ (p : Head × List ℕ). p .0) (then r (λ a m. then (whole (a .width) (a .height) (length lent) t m) (λ l e. give (a, l) t e)))
+          → toldError x ≡ outcome (λ (p : Head × List ℕ). p .0) (then r (λ a m. then (whole (a .width) (a .height) (length lent) t m) (λ l e. give (a, l) t e)))
       go (ok a m) x w = error-never x w
-      go (stop c m) x w = ap placeless w
-      go (bad c m) x w = ap placeless w
+      go (stop c m) x w = error-placed {A = Ended Head} {B = Head} x w
+      go (bad c m) x w = error-unplaced {A = Ended Head} {B = Head} x w
 
       named : (r : Result Head) (x : XbmDecodeError) → toldError x ≡ shown r → h .name ≡ nameLength r → take (h .name) name′ ≡ nameIn r
       named (ok a m) x w s = error-never x w

@@ -6,9 +6,9 @@ use mathlib.Core.List.{List, []}
 use lib.ListN.{length, take}
 use Rattle.text.specs.declared.TextLocation.{TextLocation}
 use Rattle.text.specs.Place.{start}
-use Rattle.text.specs.Reader.{Result, ok, stop, bad, Reader, _>>=_, Told}
+use Rattle.text.specs.Reader.{Result, ok, stop, bad, Reader, _>>=_}
 use Rattle.text.specs.Leaf.{give}
-use Rattle.text.specs.Outcome.{Outcome, accepted, refused, unplaced, outcome, placeless}
+use Rattle.text.specs.Outcome.{Outcome, accepted, refused, unplaced, outcome}
 use Rattle.lexical.specs.Token.{overlay}
 use Rattle.header.specs.declared.XbmHeaderData.{XbmHeaderData}
 use Rattle.header.specs.Header.{Head, header}
@@ -59,7 +59,7 @@ reading text name pixels = record {
 
 abbrev pub toldImage : List ℕ → ImageRead → Outcome Head
 toldImage name (Read d) = accepted (headOf name d)
-toldImage name (Refused e) = placeless (toldError e)
+toldImage name (Refused e) = toldError e
 toldImage name DimensionMismatch = unplaced 31
 
 -- an answer of the code and the buffers after it, as a reading

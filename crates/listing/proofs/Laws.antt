@@ -18,15 +18,13 @@ use borrow.Author.Tests.{eq-eqb, ne-eqb, lt-ltb, le-ltb}
 use Rattle.text.specs.Ascii.{ascii}
 use Rattle.text.specs.declared.TextLocation.{TextLocation}
 use Rattle.text.specs.Place.{pick, start}
-use Rattle.text.specs.Reader.{Result, ok, stop, bad, Told, shown}
-use Rattle.text.specs.Outcome.{Outcome, accepted, refused, unplaced, placeless}
-use Rattle.lexical.specs.declared.XbmPart.{XbmPart}
-use Rattle.lexical.specs.Lexical.{number}
-use Rattle.lexical.proofs.Laws.{number-fits}
+use Rattle.text.specs.Reader.{Result, ok, stop, bad}
+use Rattle.text.specs.Outcome.{Outcome, accepted, refused, unplaced, Ended, shown}
 use Rattle.lexical.specs.Token.{overlay}
 use Rattle.header.specs.declared.XbmDecodeError.{XbmDecodeError}
-use Rattle.header.specs.declared.XbmDecodeError.the-variants.{Parse, DecodeInteger, ZeroWidth, ZeroHeight}
-use Rattle.header.proofs.Told.{error-never}
+use Rattle.header.specs.declared.Refusal.{Refusal}
+use Rattle.header.specs.declared.Refusal.the-variants.{Placed, Unplaced}
+use Rattle.header.proofs.Told.{error-never, error-placed, error-unplaced}
 use Rattle.header.specs.declared.XbmHeaderData.{XbmHeaderData}
 use Rattle.header.specs.declared.Hotspot.{Hotspot}
 use Rattle.header.specs.declared.Hotspot.the-variants.{Absent, At}
@@ -34,7 +32,7 @@ use Rattle.header.specs.declared.HeaderRead.{HeaderRead}
 use Rattle.header.specs.declared.HeaderRead.the-variants.{Read as HeadRead, Refused as HeadRefused}
 use Rattle.header.specs.declared.HeaderAnswer.{HeaderAnswer}
 use Rattle.header.specs.Header.{Head, header}
-use Rattle.header.specs.Answer.{headOf, hotOf, toldError, stored, Headed}
+use Rattle.header.specs.Answer.{refusalOf, toldRefusal, headOf, hotOf, toldError, stored, Headed}
 use Rattle.image.proofs.Whole.{head-is}
 use Rattle.image.specs.declared.ImageRead.{ImageRead}
 use Rattle.image.specs.declared.ImageRead.the-variants.{Read, Refused as ImageRefused, DimensionMismatch}
@@ -44,20 +42,9 @@ use Rattle.print.specs.Output.{Output, output, puts, joined, puts-append}
 use Rattle.print.specs.Decimal.{signed}
 use Rattle.print.proofs.Laws.{joined·laws}
 use Rattle.listing.specs.declared.ListAnswer.{ListAnswer}
-use Rattle.listing.specs.declared.ListAnswer.the-variants.{Accepted, Refused, Unplaced}
+use Rattle.listing.specs.declared.ListAnswer.the-variants.{Accepted, Refused}
 use Rattle.listing.specs.Listing.{inkAt, inkOf, pairText, hotText, placeText, acceptedText, printed, inkIn, pictured, unread, cellsOf, cellLimit, textLimit, afterHeader, Listed, listed, listing, answerText, Answered, Lists}
-use Rattle.listing.specs.Code.{refusalOf, readingText, Imaging, Parted}
-
--- ---- refusals by their numbers
-
-module _ {e : XbmDecodeError} where
-  pub refusal-parse : (part : XbmPart) {n : ℕ} {p : TextLocation} → e ≡ Parse part p → n ≡ number part → Refused n p ≡ refusalOf e
-  refusal-parse part h k = rw (h, k)
-
-  pub refusal-integer : (part : XbmPart) {n : ℕ} → e ≡ DecodeInteger part → n ≡ number part → Unplaced (n + 10) ≡ refusalOf e
-  refusal-integer part h k = rw (h, k)
-
-pub ruleset refusal·laws = (number-fits, refusal-parse, refusal-integer)
+use Rattle.listing.specs.Code.{readingText, Imaging, Parted}
 
 -- ---- ink
 
@@ -96,11 +83,10 @@ pub ruleset counting·laws = (counting-none, counting-fits, counting-more, count
 
 -- ---- a reading, listed
 
-refusal-text : (e : XbmDecodeError) (k : ℕ) → answerText (refusalOf e) ≡ printed (placeless (toldError e)) k
-refusal-text (Parse part p) k = refl
-refusal-text (DecodeInteger part) k = refl
-refusal-text ZeroWidth k = refl
-refusal-text ZeroHeight k = refl
+-- a refusal has no ink
+no-ink : (r : Refusal) (pixels : List ℕ) → printed (toldRefusal r) 0 ≡ printed (toldRefusal r) (inkIn (toldRefusal r) pixels)
+no-ink (Placed c p) pixels = refl
+no-ink (Unplaced c) pixels = refl
 
 module _ (text name pixels name′ pixels′ : List ℕ) {r : ImageAnswer} (k : Imaged text name pixels name′ pixels′ r) where
   imaging : (a : ListAnswer) → answerText a ≡ readingText (toldReading r name′ pixels′) → Imaging text name pixels name′ pixels′ a
@@ -109,17 +95,11 @@ module _ (text name pixels name′ pixels′ : List ℕ) {r : ImageAnswer} (k : 
   pub imaging-read : {d : XbmHeaderData} {n : ℕ} → r .image ≡ Read d → n ≡ inkOf pixels′ → Imaging text name pixels name′ pixels′ (Accepted d n)
   imaging-read {d} h e = imaging (Accepted d _) (rw (h, e))
 
-  pub imaging-refused : {x : XbmDecodeError} {a : ListAnswer} → r .image ≡ ImageRefused x → a ≡ refusalOf x → Imaging text name pixels name′ pixels′ a
-  imaging-refused {x} h e = imaging _ (ap answerText e ∙ rw h (refusal-text x _ ∙ none x))
-    where
-      none : (x : XbmDecodeError) → printed (placeless (toldError x)) 0 ≡ printed (placeless (toldError x)) (inkIn (placeless (toldError x)) pixels′)
-      none (Parse part p) = refl
-      none (DecodeInteger part) = refl
-      none ZeroWidth = refl
-      none ZeroHeight = refl
+  pub imaging-refused : {x : XbmDecodeError} {e : Refusal} → r .image ≡ ImageRefused x → e ≡ refusalOf x → Imaging text name pixels name′ pixels′ (Refused e)
+  imaging-refused {x} {e} h k = imaging (Refused e) (rw (h, k) (no-ink (refusalOf x) pixels′))
 
-  pub imaging-mismatch : r .image ≡ DimensionMismatch → Imaging text name pixels name′ pixels′ (Unplaced 31)
-  imaging-mismatch h = imaging (Unplaced 31) (rw h)
+  pub imaging-mismatch : r .image ≡ DimensionMismatch → Imaging text name pixels name′ pixels′ (Refused (Unplaced 31))
+  imaging-mismatch h = imaging (Refused (Unplaced 31)) (rw h)
 
 pub ruleset imaging·laws = (imaging-read, imaging-refused, imaging-mismatch)
 
@@ -135,11 +115,14 @@ module _ (o : Output) {z : Output} where
   pub text-accepted : {a : ListAnswer} {d : XbmHeaderData} {n : ℕ} → a ≡ Accepted d n → z ≡ puts (acceptedText (headOf [] d) n) o → z ≡ puts (answerText a) o
   text-accepted e k = rw e k
 
-  pub text-refused : {a : ListAnswer} {c : ℕ} {p : TextLocation} → a ≡ Refused c p → z ≡ puts (printed (refused c p) 0) o → z ≡ puts (answerText a) o
+  pub text-refused : {a : ListAnswer} {e : Refusal} → a ≡ Refused e → z ≡ puts (printed (toldRefusal e) 0) o → z ≡ puts (answerText a) o
   text-refused e k = rw e k
 
-  pub text-unplaced : {a : ListAnswer} {c : ℕ} → a ≡ Unplaced c → z ≡ puts (printed (unplaced c) 0) o → z ≡ puts (answerText a) o
-  text-unplaced e k = rw e k
+  pub refusal-placed : {e : Refusal} {c : ℕ} {p : TextLocation} → e ≡ Placed c p → z ≡ puts (printed (refused c p) 0) o → z ≡ puts (printed (toldRefusal e) 0) o
+  refusal-placed e k = rw e k
+
+  pub refusal-unplaced : {e : Refusal} {c : ℕ} → e ≡ Unplaced c → z ≡ puts (printed (unplaced c) 0) o → z ≡ puts (printed (toldRefusal e) 0) o
+  refusal-unplaced e k = rw e k
 
 -- two numbers with a sign; what a call is given of one is read off its bits
 module _ (x y : ℤ) (o : Output) where
@@ -158,7 +141,7 @@ module _ (x y : ℤ) (o : Output) where
       let e : o₂ ≡ puts (ascii " ") (puts (signed x) o) = b ∙ ap (puts (ascii " ")) d in
       c ∙ ap (λ (n : ℤ). puts (signed n) o₂) (toZ-ofZ w32 y hy) ∙ ap (puts (signed y)) e ∙ pair-joined
 
-pub ruleset text·laws = (hot-absent, hot-at, text-accepted, text-refused, text-unplaced, joined·laws)
+pub ruleset text·laws = (hot-absent, hot-at, text-accepted, text-refused, refusal-placed, refusal-unplaced, joined·laws)
 
 -- ---- the first cells lent
 
@@ -196,9 +179,9 @@ module _ (text name cells : List ℕ) where
   answered-by r name″ cells′ y e p q s =
       record { prints = p ∙ ap (λ (x : Listed). printed (x .told) (x .ink)) (sym e); named = q ∙ ap (λ (x : Listed). x .symbol) (sym e); filled = s ∙ ap (λ (x : Listed). x .cells) (sym e) }
 
-  pub answered-long : textLimit < length text → Answered text name cells name cells (Unplaced 41)
+  pub answered-long : textLimit < length text → Answered text name cells name cells (Refused (Unplaced 41))
   unfolding listed
-  answered-long h = answered-by (Unplaced 41) name cells (unread (unplaced 41) name cells) (rw (lt-ltb textLimit (length text) h)) refl refl refl
+  answered-long h = answered-by (Refused (Unplaced 41)) name cells (unread (unplaced 41) name cells) (rw (lt-ltb textLimit (length text) h)) refl refl refl
 
   module _ (h : length text ≤ textLimit) {name′ : List ℕ} {a : HeaderAnswer} (k : Headed text name name′ a) where
     answered : (r : ListAnswer) (name″ cells′ : List ℕ) (x : Result Head) → header (length name) text start ≡ x
@@ -207,21 +190,23 @@ module _ (text name cells : List ℕ) where
     unfolding listed
     answered r name″ cells′ x e = answered-by r name″ cells′ (afterHeader text name cells x) (rw (le-ltb textLimit (length text) h, e))
 
-    refused-so : (x : Result Head) → header (length name) text start ≡ x → (e : XbmDecodeError) → toldError e ≡ shown x → Answered text name cells name′ cells (refusalOf e)
+    refused-so : (x : Result Head) → header (length name) text start ≡ x → (e : XbmDecodeError) → toldError e ≡ shown x → Answered text name cells name′ cells (Refused (refusalOf e))
     unfolding afterHeader
     refused-so (ok d p) u e w = error-never e w
-    refused-so (stop c p) u e w = answered (refusalOf e) name′ cells (stop c p) u (refusal-text e 0 ∙ ap (λ (x : Told Head). printed (placeless x) 0) w) (k .symbol) refl
-    refused-so (bad c p) u e w = answered (refusalOf e) name′ cells (bad c p) u (refusal-text e 0 ∙ ap (λ (x : Told Head). printed (placeless x) 0) w) (k .symbol) refl
+    refused-so (stop c p) u e w =
+        answered (Refused (refusalOf e)) name′ cells (stop c p) u (ap (λ (x : Outcome Head). printed x 0) (error-placed {A = Ended Head} {B = Head} e w)) (k .symbol) refl
+    refused-so (bad c p) u e w =
+        answered (Refused (refusalOf e)) name′ cells (bad c p) u (ap (λ (x : Outcome Head). printed x 0) (error-unplaced {A = Ended Head} {B = Head} e w)) (k .symbol) refl
 
-    pub answered-refused : {e : XbmDecodeError} {r : ListAnswer} → a .header ≡ HeadRefused e → r ≡ refusalOf e → Answered text name cells name′ cells r
-    answered-refused {e} {r} m g = rw g (refused-so (header (length name) text start) refl e (rw m at (k .answer)))
+    pub answered-refused : {e : XbmDecodeError} {f : Refusal} → a .header ≡ HeadRefused e → f ≡ refusalOf e → Answered text name cells name′ cells (Refused f)
+    answered-refused {e} {f} m g = rw g (refused-so (header (length name) text start) refl e (rw m at (k .answer)))
 
     module _ {d : XbmHeaderData} {p : TextLocation} (m : a .header ≡ HeadRead d p) {n : ℕ} (g : n ≡ d .width * d .height) where
-      pub answered-large : cellLimit < n → Answered text name cells name′ cells (Unplaced 42)
+      pub answered-large : cellLimit < n → Answered text name cells name′ cells (Refused (Unplaced 42))
       unfolding afterHeader
       answered-large l =
           let t : ltb cellLimit (d .width * d .height) ≡ true = rw g at (lt-ltb cellLimit n l) in
-          answered (Unplaced 42) name′ cells _ (head-is text name name′ k m) (rw t) (rw t (k .symbol)) (rw t)
+          answered (Refused (Unplaced 42)) name′ cells _ (head-is text name name′ k m) (rw t) (rw t (k .symbol)) (rw t)
 
       pub answered-read : {name″ cells′ : List ℕ} {r : ListAnswer} → n ≤ cellLimit → length name′ ≡ length name → Parted text name′ cells n name″ cells′ r → Answered text name cells name″ cells′ r
       unfolding afterHeader

@@ -1,22 +1,11 @@
 -- Parts of the listing as the code makes them.
-use Prim.Native.Nat.{ℕ, _+_}
+use Prim.Native.Nat.{ℕ}
 use mathlib.Core.Path.{_≡_}
 use mathlib.Core.List.{List, _++_}
 use lib.ListN.{take, drop}
-use Rattle.lexical.specs.Lexical.{number}
-use Rattle.header.specs.declared.XbmDecodeError.{XbmDecodeError}
-use Rattle.header.specs.declared.XbmDecodeError.the-variants.{Parse, DecodeInteger, ZeroWidth, ZeroHeight}
 use Rattle.image.specs.Reading.{Reading, reading}
 use Rattle.listing.specs.Listing.{printed, inkIn, answerText}
 use Rattle.listing.specs.declared.ListAnswer.{ListAnswer}
-use Rattle.listing.specs.declared.ListAnswer.the-variants.{Accepted, Refused, Unplaced}
-
--- a refusal by its number
-abbrev pub refusalOf : XbmDecodeError → ListAnswer
-refusalOf (Parse part p) = Refused (number part) p
-refusalOf (DecodeInteger part) = Unplaced (number part + 10)
-refusalOf ZeroWidth = Unplaced 21
-refusalOf ZeroHeight = Unplaced 22
 
 -- what is printed of a reading
 abbrev pub readingText : Reading → List ℕ

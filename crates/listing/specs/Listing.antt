@@ -14,12 +14,12 @@ use Rattle.text.specs.Reader.{Result, ok, stop, bad}
 use Rattle.text.specs.Outcome.{Outcome, accepted, refused, unplaced}
 use Rattle.lexical.specs.Token.{overlay}
 use Rattle.header.specs.Header.{Head, header}
-use Rattle.header.specs.Answer.{headOf, stored}
+use Rattle.header.specs.Answer.{toldRefusal, headOf, stored}
 use Rattle.image.specs.Reading.{Reading, reading}
 use Rattle.print.specs.Output.{output, puts, joined}
 use Rattle.print.specs.Decimal.{decimal, signed}
 use Rattle.listing.specs.declared.ListAnswer.{ListAnswer}
-use Rattle.listing.specs.declared.ListAnswer.the-variants.{Accepted, Refused, Unplaced}
+use Rattle.listing.specs.declared.ListAnswer.the-variants.{Accepted, Refused}
 
 -- the program's limits: bytes of a text (41), cells of a picture (42)
 abbrev pub textLimit : ℕ
@@ -117,13 +117,11 @@ listing text name cells = printed (listed text name cells .told) (listed text na
 -- what is told of an answer: the name is not printed, so any name will do
 abbrev pub toldList : List ℕ → ListAnswer → Outcome Head
 toldList name (Accepted d k) = accepted (headOf name d)
-toldList name (Refused c p) = refused c p
-toldList name (Unplaced c) = unplaced c
+toldList name (Refused e) = toldRefusal e
 
 abbrev pub inkTold : ListAnswer → ℕ
 inkTold (Accepted d k) = k
-inkTold (Refused c p) = 0
-inkTold (Unplaced c) = 0
+inkTold (Refused e) = 0
 
 -- the printed text of an answer
 abbrev pub answerText : ListAnswer → List ℕ

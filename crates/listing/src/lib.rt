@@ -2,19 +2,19 @@
 ghost use mathlib.Core.Path.{_≡_};
 ghost use Prim.Native.Nat.{_*_};
 ghost use mathlib.Core.List.{[]};
-ghost use Rattle.header.specs.Answer.{headOf, hotOf};
+ghost use Rattle.header.specs.Answer.{toldRefusal, headOf, hotOf};
 ghost use Rattle.text.specs.Outcome.{refused, unplaced};
 ghost use Rattle.print.specs.Output.{output, puts};
 ghost use Rattle.listing.specs.Listing.{inkAt, inkOf, fieldText, placeText, pairText, hotText, sidesText, hotspotText, inkText, acceptedText, printed, answerText, Answered, Lists};
-ghost use Rattle.listing.specs.Code.{refusalOf, Imaging, Parted};
+ghost use Rattle.listing.specs.Code.{Imaging, Parted};
 use header::HeaderRead;
 use header::Hotspot;
-use header::XbmDecodeError;
+use header::Refusal;
 use header::XbmHeaderData;
 use header::read_xbm_header;
+use header::refusal_of;
 use image::ImageRead;
 use image::read_image;
-use lexical::part_number;
 use print::put_bytes;
 use print::put_decimal;
 use print::put_signed;
@@ -25,23 +25,10 @@ pub const TEXT_LIMIT: usize = 65536;
 
 pub const CELL_LIMIT: u64 = 65536;
 
-// The header and the ink of an accepted mask; or a refusal's number, with its place where one is told.
+// The header and the ink of an accepted mask, or the refusal.
 pub enum ListAnswer {
     Accepted(XbmHeaderData, u64),
-    Refused(u32, TextLocation),
-    Unplaced(u32),
-}
-
-// A refusal by its number.
-fn refusal(e: XbmDecodeError) -> ListAnswer
-    ensures { λ r. ⌜ r ≡ refusalOf e ⌝ }
-{
-    match e {
-        XbmDecodeError::Parse(part, p) => ListAnswer::Refused(part_number(part), p),
-        XbmDecodeError::DecodeInteger(part) => ListAnswer::Unplaced(part_number(part) + 10),
-        XbmDecodeError::ZeroWidth => ListAnswer::Unplaced(21),
-        XbmDecodeError::ZeroHeight => ListAnswer::Unplaced(22),
-    }
+    Refused(Refusal),
 }
 
 // One for a cell of ink, which is 0.
@@ -75,8 +62,8 @@ fn list_image(text: &[u8], name: &mut [u8], pixels: &mut [u8]) -> ListAnswer
     let image = read.image;
     match image {
         ImageRead::Read(d) => ListAnswer::Accepted(d, count_ink(pixels)),
-        ImageRead::Refused(e) => refusal(e),
-        ImageRead::DimensionMismatch => ListAnswer::Unplaced(31),
+        ImageRead::Refused(e) => ListAnswer::Refused(refusal_of(e)),
+        ImageRead::DimensionMismatch => ListAnswer::Refused(Refusal::Unplaced(31)),
     }
 }
 
@@ -102,7 +89,7 @@ fn list_text(text: &[u8], name: &mut [u8], cells: &mut [u8]) -> ListAnswer
     ensures { λ r. ⌜ Answered (now (text .entry)) (now (name .entry)) (now (cells .entry)) (now (name .exit)) (now (cells .exit)) r ⌝ }
 {
     if text.len() > TEXT_LIMIT {
-        return ListAnswer::Unplaced(41);
+        return ListAnswer::Refused(Refusal::Unplaced(41));
     }
     let read = read_xbm_header(text, name);
     let header = read.header;
@@ -110,11 +97,11 @@ fn list_text(text: &[u8], name: &mut [u8], cells: &mut [u8]) -> ListAnswer
         HeaderRead::Read(d, _) => {
             let n = cell_count(d.width, d.height);
             if n > CELL_LIMIT {
-                return ListAnswer::Unplaced(42);
+                return ListAnswer::Refused(Refusal::Unplaced(42));
             }
             list_part(text, name, cells, n as usize)
         }
-        HeaderRead::Refused(e) => refusal(e),
+        HeaderRead::Refused(e) => ListAnswer::Refused(refusal_of(e)),
     }
 }
 
@@ -208,14 +195,23 @@ fn put_unplaced(out: &mut [u8], n: u32) -> usize
     put_bytes(out, a, b"\n")
 }
 
+// A refusal.
+fn put_refusal(out: &mut [u8], refusal: Refusal) -> usize
+    ensures { λ r. ⌜ output (now (out .exit)) r ≡ puts (printed (toldRefusal refusal) 0) (output (now (out .entry)) 0) ⌝ }
+{
+    match refusal {
+        Refusal::Placed(n, p) => put_refused(out, n, p),
+        Refusal::Unplaced(n) => put_unplaced(out, n),
+    }
+}
+
 // The printed text of an answer.
 fn put_answer(out: &mut [u8], answer: ListAnswer) -> usize
     ensures { λ r. ⌜ output (now (out .exit)) r ≡ puts (answerText answer) (output (now (out .entry)) 0) ⌝ }
 {
     match answer {
         ListAnswer::Accepted(d, k) => put_accepted(out, d, k),
-        ListAnswer::Refused(n, p) => put_refused(out, n, p),
-        ListAnswer::Unplaced(n) => put_unplaced(out, n),
+        ListAnswer::Refused(e) => put_refusal(out, e),
     }
 }
 

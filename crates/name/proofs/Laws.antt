@@ -9,14 +9,16 @@ use lib.Seq.{take-all, take-length, drop-length}
 use lib.Dec.{ltb}
 use borrow.Author.Tests.{ltb-true, ltb-false}
 use Rattle.text.specs.declared.TextLocation.{TextLocation}
-use Rattle.text.specs.Reader.{Result, ok, stop, bad, Told, accepted, refused, unplaced, shown}
+use Rattle.text.specs.Reader.{Result, ok, stop, bad}
+use Rattle.text.specs.Outcome.{Outcome, accepted, refused, unplaced, Ended, ending-at, shown}
 use Rattle.header.specs.declared.XbmDecodeError.{XbmDecodeError}
-use Rattle.header.specs.declared.XbmDecodeError.the-variants.{Parse, DecodeInteger, ZeroWidth, ZeroHeight}
+use Rattle.header.specs.declared.Refusal.{Refusal}
+use Rattle.header.specs.declared.Refusal.the-variants.{Placed, Unplaced}
 use Rattle.header.specs.declared.HeaderRead.{HeaderRead}
 use Rattle.header.specs.declared.HeaderRead.the-variants.{Read, Refused}
 use Rattle.header.specs.declared.HeaderAnswer.{HeaderAnswer}
 use Rattle.header.specs.Header.{Head}
-use Rattle.header.specs.Answer.{toldHeader, toldError, nameLength, Headed}
+use Rattle.header.specs.Answer.{refusalOf, toldRefusal, toldHeader, toldError, nameLength, Headed}
 use Rattle.name.specs.Parted.{handed, headerFor, laterBuffer, Stored, Parted}
 
 -- ---- a part that is no longer than the buffer
@@ -42,16 +44,17 @@ module _ (l : List ℕ) (n : ℕ) {size : ℕ} (e : size ≡ min n (length l)) w
 -- ---- the name in the header's answer
 
 -- the name that a caller is told
-abbrev nameTold : Told Head → List ℕ
-nameTold (accepted h p) = h .name
+abbrev nameTold : Outcome (Ended Head) → List ℕ
+nameTold (accepted (ending-at h p)) = h .name
 nameTold (refused c p) = []
 nameTold (unplaced c) = []
 
 no-name : (x : XbmDecodeError) → nameTold (toldError x) ≡ []
-no-name (Parse part p) = refl
-no-name (DecodeInteger part) = refl
-no-name ZeroWidth = refl
-no-name ZeroHeight = refl
+no-name x = go (refusalOf x)
+  where
+    go : (r : Refusal) → nameTold (toldRefusal r) ≡ []
+    go (Placed c p) = refl
+    go (Unplaced c) = refl
 
 named : (later : List ℕ) (n : ℕ) (h : HeaderRead) (r : Result Head) → toldHeader (take n later) h ≡ shown r → n ≡ nameLength r → take n later ≡ handed r
 named later n (Read d p) (ok a e) q s = ap nameTold q
