@@ -4,3 +4,5 @@ pub mod Stores
 pub mod Paint
 pub mod Going
 pub mod Whole
+pub mod Ink
+pub mod Limit

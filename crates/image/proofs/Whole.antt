@@ -88,10 +88,10 @@ module _ (t name name′ : List ℕ) {h : HeaderAnswer} (k : Headed t name name�
     pub head-sides : Sided d
     head-sides = let (a, b) = yields-header (length name) .yields t start (headOf (take (h .name) name′) d) p head-is in record { wide = a; high = b }
 
-    name-fits : h .name ≤ length name′
+    pub name-fits : h .name ≤ length name′
     name-fits = omega (arith, k .size ∙ ap nameLength head-is, length-take (h .name) name′)
 
-same-reading : (a b : Reading) → a .answer ≡ b .answer → a .name ≡ b .name → a .symbol ≡ b .symbol → a .pixels ≡ b .pixels → a ≡ b
+pub same-reading : (a b : Reading) → a .answer ≡ b .answer → a .name ≡ b .name → a .symbol ≡ b .symbol → a .pixels ≡ b .pixels → a ≡ b
 same-reading a b p q r s =
     ap (λ (x : Outcome Head). record { answer = x; name = a .name; symbol = a .symbol; pixels = a .pixels }) p
     ∙ ap (λ (x : List ℕ). record { answer = b .answer; name = x; symbol = a .symbol; pixels = a .pixels }) q

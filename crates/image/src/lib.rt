@@ -1,11 +1,13 @@
 // Pixels from a text: the header, then the rows of cells, into lent buffers.
 ghost use mathlib.Core.Path.{_≡_};
-ghost use Prim.Native.Nat.{_+_, _≤_};
-ghost use lib.ListN.{length};
+ghost use Prim.Native.Nat.{_+_, _*_, _≤_, min};
+ghost use lib.ListN.{length, take};
 ghost use Rattle.lexical.specs.Lexical.{toldByte};
 ghost use Rattle.lexical.specs.Hex.{hexOf};
 ghost use Rattle.decoder.specs.Data.{item};
 ghost use Rattle.image.specs.Cells.{ink};
+ghost use Rattle.image.specs.Ink.{inkAt, inkOf};
+ghost use Rattle.image.specs.Limited.{limitedOf, Bounded, Limited};
 ghost use Rattle.image.specs.Stores.{dab};
 ghost use Rattle.image.specs.Quick.{Meets, hexTable};
 ghost use Rattle.image.specs.Rows.{Filled};
@@ -13,9 +15,11 @@ ghost use Rattle.image.specs.Reading.{Sided, Pictured, Imaged};
 use decoder::read_data_byte;
 use decoder::read_trailer;
 use header::HeaderRead;
+use header::Refusal;
 use header::XbmDecodeError;
 use header::XbmHeaderData;
 use header::read_xbm_header;
+use header::refusal_of;
 use hex_table::HEX;
 use lexical::ByteRead;
 use lexical::Passed;
@@ -44,6 +48,17 @@ pub enum ImageRead {
 // The same, with the length of the name that stands at the name buffer's start: 0 if the header is refused.
 pub struct ImageAnswer {
     pub image: ImageRead,
+    pub name: usize,
+}
+
+// The same within a limit on the cells, a refusal by its number.
+pub enum LimitedRead {
+    Read(XbmHeaderData),
+    Refused(Refusal),
+}
+
+pub struct LimitedAnswer {
+    pub image: LimitedRead,
     pub name: usize,
 }
 
@@ -235,4 +250,100 @@ pub fn read_image(text: &[u8], name: &mut [u8], pixels: &mut [u8]) -> ImageAnswe
             name: read.name,
         },
     }
+}
+
+// How many cells a picture has.
+pub fn cell_count(width: u32, height: u32) -> u64
+    ensures { λ r. ⌜ r ≡ width * height ⌝ }
+{
+    (width as u64) * (height as u64)
+}
+
+// The lesser of a number and a length.
+fn at_most(n: u64, length: usize) -> usize
+    ensures { λ r. ⌜ r ≡ min n length ⌝ }
+{
+    if n < length as u64 {
+        return n as usize;
+    }
+    length
+}
+
+// A picture's answer, its refusal by its number.
+fn limited_of(image: ImageRead) -> LimitedRead
+    ensures { λ r. ⌜ r ≡ limitedOf image ⌝ }
+{
+    match image {
+        ImageRead::Read(d) => LimitedRead::Read(d),
+        ImageRead::Refused(e) => LimitedRead::Refused(refusal_of(e)),
+        ImageRead::DimensionMismatch => LimitedRead::Refused(Refusal::Unplaced(31)),
+    }
+}
+
+// The rows of an accepted header into the first width times height cells, if these are not above the limit; no side is zero.
+fn read_within(
+    text: &[u8],
+    place: TextLocation,
+    header: XbmHeaderData,
+    cells: &mut [u8],
+    limit: u64,
+) -> LimitedRead
+    requires { ⌜ Sided header ⌝ }
+    ensures { λ r. ⌜ Bounded limit header (now (text .entry)) place (now (cells .entry)) (now (cells .exit)) r ⌝ }
+{
+    let n = cell_count(header.width, header.height);
+    if n > limit {
+        return LimitedRead::Refused(Refusal::Unplaced(42));
+    }
+    let size = at_most(n, cells.len());
+    limited_of(read_picture(text, place, header, &mut cells[..size]))
+}
+
+// The pixels of a text, its header first, into the first width times height of the cells lent; above the limit on these only the header is read.
+pub fn read_limited(text: &[u8], name: &mut [u8], cells: &mut [u8], limit: u64) -> LimitedAnswer
+    ensures { λ r. ⌜ Limited limit (now (text .entry)) (now (name .entry)) (now (cells .entry)) (now (name .exit)) (now (cells .exit)) r ⌝ }
+{
+    let read = read_xbm_header(text, name);
+    let header = read.header;
+    match header {
+        HeaderRead::Read(d, place) => LimitedAnswer {
+            image: read_within(text, place, d, cells, limit),
+            name: read.name,
+        },
+        HeaderRead::Refused(e) => LimitedAnswer {
+            image: LimitedRead::Refused(refusal_of(e)),
+            name: read.name,
+        },
+    }
+}
+
+// One for a cell of ink, which is 0.
+fn ink_at(cell: u8) -> u64
+    ensures { λ r. ⌜ r ≡ inkAt cell ⌝ }
+{
+    if cell == 0 {
+        return 1;
+    }
+    0
+}
+
+// How many cells are 0.
+fn count_ink(cells: &[u8]) -> u64
+    ensures { λ r. ⌜ r ≡ inkOf (now (cells .entry)) ⌝ }
+{
+    let mut n: u64 = 0;
+    let mut i = 0;
+    while i < cells.len() {
+        n += ink_at(cells[i]);
+        i += 1;
+    }
+    n
+}
+
+// How many cells of a picture are 0: the first width times height of those lent.
+pub fn picture_ink(cells: &[u8], width: u32, height: u32) -> u64
+    ensures { λ r. ⌜ r ≡ inkOf (take (width * height) (now (cells .entry))) ⌝ }
+{
+    let size = at_most(cell_count(width, height), cells.len());
+    count_ink(&cells[..size])
 }

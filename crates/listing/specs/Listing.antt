@@ -1,21 +1,20 @@
 -- What the listing program prints of a text: document 01's program, its limits included.
-use Prim.Native.Nat.{ℕ, _+_, _*_, _≤_}
+use Prim.Native.Nat.{ℕ}
 use mathlib.Core.Path.{_≡_}
 use mathlib.Core.Option.{Option, none, some}
-use mathlib.Core.Bool.{true}
 use mathlib.Core.List.{List, [], _∷_, _++_}
-use lib.ListN.{length, take, drop}
-use lib.Dec.{eqb, ltb}
+use lib.ListN.{length, take}
+use lib.Dec.{ltb}
 use lib.IntN.{ℤ}
 use Rattle.text.specs.Ascii.{ascii}
 use Rattle.text.specs.declared.TextLocation.{TextLocation}
-use Rattle.text.specs.Place.{pick, start}
-use Rattle.text.specs.Reader.{Result, ok, stop, bad}
+use Rattle.text.specs.Place.{pick}
 use Rattle.text.specs.Outcome.{Outcome, accepted, refused, unplaced}
-use Rattle.lexical.specs.Token.{overlay}
-use Rattle.header.specs.Header.{Head, header}
-use Rattle.header.specs.Answer.{toldRefusal, headOf, stored}
-use Rattle.image.specs.Reading.{Reading, reading}
+use Rattle.header.specs.Header.{Head}
+use Rattle.header.specs.Answer.{toldRefusal, headOf}
+use Rattle.image.specs.Ink.{inkOf}
+use Rattle.image.specs.Reading.{Reading}
+use Rattle.image.specs.Limited.{cellsOf, limited}
 use Rattle.print.specs.Output.{output, puts, joined}
 use Rattle.print.specs.Decimal.{decimal, signed}
 use Rattle.listing.specs.declared.ListAnswer.{ListAnswer}
@@ -29,14 +28,6 @@ abbrev pub cellLimit : ℕ
 cellLimit = 65536
 
 -- ---- what is printed
-
--- the ink: how many cells are 0
-abbrev pub inkAt : ℕ → ℕ
-inkAt x = pick (eqb x 0) 1 0
-
-abbrev pub inkOf : List ℕ → ℕ
-inkOf [] = 0
-inkOf (x ∷ l) = inkAt x + inkOf l
 
 -- a word and a number
 abbrev pub fieldText : List ℕ → ℕ → List ℕ
@@ -82,35 +73,32 @@ pub record Listed : Type 0 where
   pub symbol : List ℕ
   pub cells : List ℕ
 
+-- the ink of an accepted picture
 abbrev pub inkIn : Outcome Head → List ℕ → ℕ
-inkIn (accepted h) cells = inkOf cells
+inkIn (accepted h) cells = inkOf (take (cellsOf h) cells)
 inkIn (refused c p) cells = 0
 inkIn (unplaced c) cells = 0
 
--- a picture read into the first cells lent, the others as lent
-abbrev pub pictured : Reading → List ℕ → Listed
-pictured r others = record { told = r .answer; ink = inkIn (r .answer) (r .pixels); symbol = r .symbol; cells = r .pixels ++ others }
+-- a reading, listed; nothing read
+abbrev pub listedOf : Reading → Listed
+listedOf r = record { told = r .answer; ink = inkIn (r .answer) (r .pixels); symbol = r .symbol; cells = r .pixels }
 
 abbrev pub unread : Outcome Head → List ℕ → List ℕ → Listed
 unread a symbol cells = record { told = a; ink = 0; symbol = symbol; cells = cells }
 
-abbrev pub cellsOf : Head → ℕ
-cellsOf h = h .width * h .height
+-- before the header: a text above its limit is 41; then the reading within the limit on the cells
+unfoldable pub listedWithin : ℕ → ℕ → List ℕ → List ℕ → List ℕ → Listed
+listedWithin bytes most text name cells = pick (ltb bytes (length text)) (unread (unplaced 41) name cells) (listedOf (limited most text name cells))
 
--- after the header: more cells than the limit are 42, else width times height cells are lent
-unfoldable pub afterHeader : List ℕ → List ℕ → List ℕ → Result Head → Listed
-afterHeader text name cells (ok h e) =
-    pick (ltb cellLimit (cellsOf h)) (unread (unplaced 42) (overlay (stored (length name) text) name) cells)
-    (pictured (reading text name (take (cellsOf h) cells)) (drop (cellsOf h) cells))
-afterHeader text name cells (stop c p) = unread (refused c p) (overlay (stored (length name) text) name) cells
-afterHeader text name cells (bad c p) = unread (unplaced c) (overlay (stored (length name) text) name) cells
+-- with the program's limits
+abbrev pub listed : List ℕ → List ℕ → List ℕ → Listed
+listed text name cells = listedWithin textLimit cellLimit text name cells
 
--- before the header: a text above the limit is 41
-unfoldable pub listed : List ℕ → List ℕ → List ℕ → Listed
-listed text name cells = pick (ltb textLimit (length text)) (unread (unplaced 41) name cells) (afterHeader text name cells (header (length name) text start))
+abbrev pub listedText : Listed → List ℕ
+listedText l = printed (l .told) (l .ink)
 
 abbrev pub listing : List ℕ → List ℕ → List ℕ → List ℕ
-listing text name cells = printed (listed text name cells .told) (listed text name cells .ink)
+listing text name cells = listedText (listed text name cells)
 
 -- ---- what the code answers
 
@@ -128,13 +116,13 @@ abbrev pub answerText : ListAnswer → List ℕ
 answerText r = printed (toldList [] r) (inkTold r)
 
 -- reading a text for the listing: what is printed, and the buffers later
-pub record Answered (text name cells name′ cells′ : List ℕ) (r : ListAnswer) : Type 0 where
-  pub prints : answerText r ≡ listing text name cells
-  pub named : name′ ≡ listed text name cells .symbol
-  pub filled : cells′ ≡ listed text name cells .cells
+pub record Answered (bytes most : ℕ) (text name cells name′ cells′ : List ℕ) (r : ListAnswer) : Type 0 where
+  pub prints : answerText r ≡ listedText (listedWithin bytes most text name cells)
+  pub named : name′ ≡ listedWithin bytes most text name cells .symbol
+  pub filled : cells′ ≡ listedWithin bytes most text name cells .cells
 
 -- the same, with the text put into a lent buffer from its start on
-pub record Lists (text name cells out name′ cells′ out′ : List ℕ) (r : ℕ) : Type 0 where
-  pub prints : output out′ r ≡ puts (listing text name cells) (output out 0)
-  pub named : name′ ≡ listed text name cells .symbol
-  pub filled : cells′ ≡ listed text name cells .cells
+pub record Lists (bytes most : ℕ) (text name cells out name′ cells′ out′ : List ℕ) (r : ℕ) : Type 0 where
+  pub prints : output out′ r ≡ puts (listedText (listedWithin bytes most text name cells)) (output out 0)
+  pub named : name′ ≡ listedWithin bytes most text name cells .symbol
+  pub filled : cells′ ≡ listedWithin bytes most text name cells .cells

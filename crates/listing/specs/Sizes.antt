@@ -11,12 +11,12 @@ use lib.IntN.{ℤ}
 use borrow.Author.Tests.{lt-ltb, le-ltb}
 use Rattle.text.specs.Ascii.{ascii}
 use Rattle.text.specs.declared.TextLocation.{TextLocation}
-use Rattle.text.specs.Place.{start}
 use Rattle.text.specs.Outcome.{Outcome, accepted, refused, unplaced}
-use Rattle.header.specs.Header.{Head, header}
+use Rattle.header.specs.Header.{Head}
+use Rattle.image.specs.Limited.{limited}
 use Rattle.print.specs.Output.{length-joined-two, length-joined-three}
 use Rattle.print.specs.Decimal.{decimal, signed, digits-short, signed-short}
-use Rattle.listing.specs.Listing.{fieldText, hotText, sidesText, hotspotText, inkText, acceptedText, placeText, printed, textLimit, unread, afterHeader, listed, listing}
+use Rattle.listing.specs.Listing.{fieldText, hotText, sidesText, hotspotText, inkText, acceptedText, placeText, printed, textLimit, cellLimit, unread, listedOf, listedWithin, listed, listing}
 
 -- ---- the output
 
@@ -69,12 +69,12 @@ listing-short text name cells = printed-short (listed text name cells .told) (li
 
 -- a text above the limit is 41
 pub listed-long : (text name cells : List ℕ) → textLimit < length text → listed text name cells ≡ unread (unplaced 41) name cells
-unfolding listed
+unfolding listedWithin
 listed-long text name cells h = rw (lt-ltb textLimit (length text) h)
 
--- any other is read with its header first
-pub listed-short : (text name cells : List ℕ) → length text ≤ textLimit → listed text name cells ≡ afterHeader text name cells (header (length name) text start)
-unfolding listed
+-- any other is read, within the limit on the cells
+pub listed-short : (text name cells : List ℕ) → length text ≤ textLimit → listed text name cells ≡ listedOf (limited cellLimit text name cells)
+unfolding listedWithin
 listed-short text name cells h = rw (le-ltb textLimit (length text) h)
 
 -- the first n bytes of a text are listed as the text is, if n is above the limit

@@ -1,26 +1,22 @@
 // The listing of a mask: what the program prints, made of a text in lent buffers.
 ghost use mathlib.Core.Path.{_≡_};
-ghost use Prim.Native.Nat.{_*_};
 ghost use mathlib.Core.List.{[]};
 ghost use Rattle.header.specs.Answer.{toldRefusal, headOf, hotOf};
 ghost use Rattle.text.specs.Outcome.{refused, unplaced};
 ghost use Rattle.print.specs.Output.{output, puts};
-ghost use Rattle.listing.specs.Listing.{inkAt, inkOf, fieldText, placeText, pairText, hotText, sidesText, hotspotText, inkText, acceptedText, printed, answerText, Answered, Lists};
-ghost use Rattle.listing.specs.Code.{Imaging, Parted};
-use header::HeaderRead;
+ghost use Rattle.listing.specs.Listing.{fieldText, placeText, pairText, hotText, sidesText, hotspotText, inkText, acceptedText, printed, answerText, Answered, Lists};
 use header::Hotspot;
 use header::Refusal;
 use header::XbmHeaderData;
-use header::read_xbm_header;
-use header::refusal_of;
-use image::ImageRead;
-use image::read_image;
+use image::LimitedRead;
+use image::picture_ink;
+use image::read_limited;
 use print::put_bytes;
 use print::put_decimal;
 use print::put_signed;
 use text::TextLocation;
 
-// The program's limits: bytes of a text, cells of a picture.
+// The limits of document 01's program: bytes of a text, cells of a picture.
 pub const TEXT_LIMIT: usize = 65536;
 
 pub const CELL_LIMIT: u64 = 65536;
@@ -31,77 +27,24 @@ pub enum ListAnswer {
     Refused(Refusal),
 }
 
-// One for a cell of ink, which is 0.
-fn ink(cell: u8) -> u64
-    ensures { λ r. ⌜ r ≡ inkAt cell ⌝ }
+// What is listed of a text, with limits on its bytes and its cells.
+fn list_text(
+    text: &[u8],
+    name: &mut [u8],
+    cells: &mut [u8],
+    text_limit: usize,
+    cell_limit: u64,
+) -> ListAnswer
+    ensures { λ r. ⌜ Answered «text_limit» «cell_limit» (now (text .entry)) (now (name .entry)) (now (cells .entry)) (now (name .exit)) (now (cells .exit)) r ⌝ }
 {
-    if cell == 0 {
-        return 1;
-    }
-    0
-}
-
-// How many cells are 0.
-fn count_ink(cells: &[u8]) -> u64
-    ensures { λ r. ⌜ r ≡ inkOf (now (cells .entry)) ⌝ }
-{
-    let mut n: u64 = 0;
-    let mut i = 0;
-    while i < cells.len() {
-        n += ink(cells[i]);
-        i += 1;
-    }
-    n
-}
-
-// The picture of a text, read into the cells lent.
-fn list_image(text: &[u8], name: &mut [u8], pixels: &mut [u8]) -> ListAnswer
-    ensures { λ r. ⌜ Imaging (now (text .entry)) (now (name .entry)) (now (pixels .entry)) (now (name .exit)) (now (pixels .exit)) r ⌝ }
-{
-    let read = read_image(text, name, pixels);
-    let image = read.image;
-    match image {
-        ImageRead::Read(d) => ListAnswer::Accepted(d, count_ink(pixels)),
-        ImageRead::Refused(e) => ListAnswer::Refused(refusal_of(e)),
-        ImageRead::DimensionMismatch => ListAnswer::Refused(Refusal::Unplaced(31)),
-    }
-}
-
-// The same, into the first n of the cells lent, or all where there are fewer.
-fn list_part(text: &[u8], name: &mut [u8], cells: &mut [u8], n: usize) -> ListAnswer
-    ensures { λ r. ⌜ Parted (now (text .entry)) (now (name .entry)) (now (cells .entry)) n (now (name .exit)) (now (cells .exit)) r ⌝ }
-{
-    if n < cells.len() {
-        return list_image(text, name, &mut cells[..n]);
-    }
-    list_image(text, name, cells)
-}
-
-// How many cells a picture has.
-fn cell_count(width: u32, height: u32) -> u64
-    ensures { λ r. ⌜ r ≡ width * height ⌝ }
-{
-    (width as u64) * (height as u64)
-}
-
-// What is listed of a text.
-fn list_text(text: &[u8], name: &mut [u8], cells: &mut [u8]) -> ListAnswer
-    ensures { λ r. ⌜ Answered (now (text .entry)) (now (name .entry)) (now (cells .entry)) (now (name .exit)) (now (cells .exit)) r ⌝ }
-{
-    if text.len() > TEXT_LIMIT {
+    if text.len() > text_limit {
         return ListAnswer::Refused(Refusal::Unplaced(41));
     }
-    let read = read_xbm_header(text, name);
-    let header = read.header;
-    match header {
-        HeaderRead::Read(d, _) => {
-            let n = cell_count(d.width, d.height);
-            if n > CELL_LIMIT {
-                return ListAnswer::Refused(Refusal::Unplaced(42));
-            }
-            list_part(text, name, cells, n as usize)
-        }
-        HeaderRead::Refused(e) => ListAnswer::Refused(refusal_of(e)),
+    let read = read_limited(text, name, cells, cell_limit);
+    let image = read.image;
+    match image {
+        LimitedRead::Read(d) => ListAnswer::Accepted(d, picture_ink(cells, d.width, d.height)),
+        LimitedRead::Refused(e) => ListAnswer::Refused(e),
     }
 }
 
@@ -215,10 +158,18 @@ fn put_answer(out: &mut [u8], answer: ListAnswer) -> usize
     }
 }
 
-// Lists a text: what is printed goes to the start of `out`, and the answer is its length.
-pub fn list(text: &[u8], name: &mut [u8], cells: &mut [u8], out: &mut [u8]) -> usize
-    ensures { λ r. ⌜ Lists (now (text .entry)) (now (name .entry)) (now (cells .entry)) (now (out .entry)) (now (name .exit)) (now (cells .exit)) (now (out .exit)) r ⌝ }
+// Lists a text, with limits on its bytes and its cells: what is printed goes to the start of `out`, and the answer is its length.
+pub fn list(
+    text: &[u8],
+    name: &mut [u8],
+    cells: &mut [u8],
+    out: &mut [u8],
+    text_limit: usize,
+    cell_limit: u64,
+) -> usize
+    ensures { λ r. ⌜ Lists «text_limit» «cell_limit» (now (text .entry)) (now (name .entry)) (now (cells .entry)) (now (out .entry))
+        (now (name .exit)) (now (cells .exit)) (now (out .exit)) r ⌝ }
 {
-    let answer = list_text(text, name, cells);
+    let answer = list_text(text, name, cells, text_limit, cell_limit);
     put_answer(out, answer)
 }

@@ -13,14 +13,8 @@ put-accepted-requires c κs = search needs
 enum-known-answer-2 : tie.Need-enum-known-answer-2
 enum-known-answer-2 c = search needs
 
-put-refused-requires : tie.Need-put-refused-requires
-put-refused-requires c κs = search needs
-
-enum-known-answer-3 : tie.Need-enum-known-answer-3
-enum-known-answer-3 c = search needs
-
-put-unplaced-requires : tie.Need-put-unplaced-requires
-put-unplaced-requires c κs = search needs
+put-refusal-requires : tie.Need-put-refusal-requires
+put-refusal-requires c κs = search needs
 
 same-length : tie.Need-same-length
 same-length c = search needs
@@ -34,12 +28,6 @@ same-length-2 c = search needs
 returns-2 : tie.Need-returns-2
 returns-2 c = search (text·laws, needs)
 
-same-length-3 : tie.Need-same-length-3
-same-length-3 c = search needs
-
-returns-3 : tie.Need-returns-3
-returns-3 c = search (text·laws, needs)
-
 pub put-answer-spec : {M : Type 1} → statement M
 put-answer-spec =
     tie.close
@@ -47,12 +35,8 @@ put-answer-spec =
     enum-known-answer
     put-accepted-requires
     enum-known-answer-2
-    put-refused-requires
-    enum-known-answer-3
-    put-unplaced-requires
+    put-refusal-requires
     same-length
     returns
     same-length-2
-    returns-2
-    same-length-3
-    returns-3)
+    returns-2)

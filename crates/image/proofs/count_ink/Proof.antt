@@ -1,10 +1,10 @@
--- `listing::count_ink` meets its contract: the loop keeps `Inv-loop`, and each way on is a law (`counting·laws`).
+-- `image::count_ink` meets its contract: the loop keeps `Inv-loop`, and each way on is a law (`counting·laws`).
 use borrow.Author.Needs.{needs}
 use Prim.Native.Nat.{_-_}
 use lib.ListN.{length}
-use Rattle.listing.proofs.Laws.{Counting, counting·laws}
-use Rattle.listing.proofs.count_ink.Statement.{statement}
-use Rattle.listing.proofs.count_ink.Tie as tie
+use Rattle.image.proofs.Ink.{Counting, counting·laws}
+use Rattle.image.proofs.count_ink.Statement.{statement}
+use Rattle.image.proofs.count_ink.Tie as tie
 
 abbrev Inv-loop : tie.InvT-loop
 Inv-loop cells n₀ i₀ n i = Counting cells n i
@@ -15,11 +15,11 @@ abbrev μ-loop : tie.MeasureT-loop
 loop-holds : tie.Need-loop-holds Inv-loop μ-loop
 loop-holds c = search (counting·laws, needs)
 
-shared-slice-read-ink : tie.Need-shared-slice-read-ink Inv-loop μ-loop
-shared-slice-read-ink c = search (counting·laws, needs)
+shared-slice-read-ink-at : tie.Need-shared-slice-read-ink-at Inv-loop μ-loop
+shared-slice-read-ink-at c = search (counting·laws, needs)
 
-ink-requires : tie.Need-ink-requires Inv-loop μ-loop
-ink-requires c κs = search (counting·laws, needs)
+ink-at-requires : tie.Need-ink-at-requires Inv-loop μ-loop
+ink-at-requires c κs = search (counting·laws, needs)
 
 add-n : tie.Need-add-n Inv-loop μ-loop
 add-n c = search (counting·laws, needs)
@@ -43,8 +43,8 @@ count-ink-spec =
     Inv-loop
     μ-loop
     loop-holds
-    shared-slice-read-ink
-    ink-requires
+    shared-slice-read-ink-at
+    ink-at-requires
     add-n
     add-i
     loop-less
