@@ -161,8 +161,8 @@ impl Interface {
 /// The hotspot of a call that has none: as it was filled.
 pub const NO_HOTSPOT_ENTRY: Hotspot = [JUNK_HOTSPOT; 2];
 
-/// The static library's calls, if this was built with it.
-pub fn linked() -> Option<Interface> {
+/// The static library's calls, if this was built with it. `library::linked` also asks whether it is the right one.
+pub(crate) fn built_in() -> Option<Interface> {
     #[cfg(has_library)]
     return Some(library::INTERFACE);
     #[cfg(not(has_library))]

@@ -494,7 +494,7 @@ pub fn nth_newline(text: &[u8], line: usize) -> usize {
 #[cfg(test)]
 mod tests {
     use super::*;
-    use crate::interface;
+    use crate::library;
     use crate::mock::{self, Fault};
 
     /// The seed of the tests.
@@ -521,7 +521,7 @@ mod tests {
     #[test]
     #[cfg_attr(not(has_library), ignore = "skipped: built without the proved reader")]
     fn library_agrees_with_the_original() {
-        let interface = interface::linked().expect("the library is linked");
+        let interface = library::linked().unwrap_or_else(|e| panic!("{e}"));
         run(&interface, SEED, 0).unwrap_or_else(|e| panic!("{e}"));
     }
 

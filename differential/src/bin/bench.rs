@@ -16,7 +16,8 @@ fn main() -> std::process::ExitCode {
 
 #[cfg(has_original)]
 mod timing {
-    use differential::interface::{self, Interface};
+    use differential::interface::Interface;
+    use differential::library;
     use differential::random::Random;
     use differential::texts::{row_bytes, Mask};
     use image::ImageDecoder;
@@ -44,9 +45,12 @@ mod timing {
     ];
 
     pub fn main() -> ExitCode {
-        let Some(interface) = interface::linked() else {
-            eprintln!("bench: {}", differential::LIBRARY_MISSING);
-            return ExitCode::from(2);
+        let interface = match library::linked() {
+            Ok(interface) => interface,
+            Err(message) => {
+                eprintln!("bench: {message}");
+                return ExitCode::from(2);
+            }
         };
         let words: Vec<String> = std::env::args().skip(1).collect();
         let words: Vec<&str> = words.iter().map(String::as_str).collect();

@@ -10,9 +10,12 @@ const COUNT: u64 = 5_000_000;
 
 #[cfg(has_original)]
 fn main() -> ExitCode {
-    let Some(interface) = differential::interface::linked() else {
-        eprintln!("compare: {}", differential::LIBRARY_MISSING);
-        return ExitCode::from(2);
+    let interface = match differential::library::linked() {
+        Ok(interface) => interface,
+        Err(message) => {
+            eprintln!("compare: {message}");
+            return ExitCode::from(2);
+        }
     };
     let (seed, count) = match options(std::env::args().skip(1)) {
         Ok(options) => options,
