@@ -6,6 +6,8 @@ pub mod random;
 pub mod texts;
 
 #[cfg(has_original)]
+pub mod classes;
+#[cfg(has_original)]
 pub mod comparison;
 #[cfg(has_original)]
 pub mod replay;

@@ -112,7 +112,7 @@ mod timing {
 
         #[inline(never)]
         fn ours_once(&mut self, interface: &Interface) {
-            let text = black_box(self.text.as_slice());
+            let text = black_box(self.text.as_mut_slice());
             let answer = interface.read_image(text, &mut self.name, &mut self.pixels);
             assert_eq!(black_box(answer).result, 0, "ours accepts the benchmark's texts");
         }
