@@ -17,6 +17,9 @@ const GUARD: usize = 16;
 /// The longest buffer that is ever lent.
 pub const LONGEST_BUFFER: usize = 1 << 18;
 
+/// So many bytes of a text are printed; the seed gives the rest again.
+const SHOWN: usize = 4000;
+
 /// The number that a foreign decoder gets. The original has none.
 const FOREIGN: u32 = 9;
 
@@ -395,9 +398,11 @@ impl<'i> Comparison<'i> {
 
     /// The call and its text, and what became of the text if it changed.
     fn heading(&self, call: &str, text: Text) -> String {
-        let shown = text.bytes.escape_ascii();
-        let mut out = format!("{call} differs on this text of {} bytes:\n", text.bytes.len());
-        writeln!(out, "\"{shown}\"").unwrap();
+        let length = text.bytes.len();
+        let shown = &text.bytes[..length.min(SHOWN)];
+        let mut out = format!("{call} differs on this text of {length} bytes:\n");
+        let more = if shown.len() < length { " and more" } else { "" };
+        writeln!(out, "\"{}\"{more}", shown.escape_ascii()).unwrap();
         let pairs = text.bytes.iter().zip(&self.text.bytes[GUARD..]);
         for (i, (a, b)) in pairs.enumerate().filter(|(_, (a, b))| a != b).take(8) {
             writeln!(out, "ours changed byte {i} of the text from {a} to {b}").unwrap();
