@@ -52,7 +52,8 @@ fn refusal(root: &Path, library: &Path, linked: &str) -> Option<String> {
 fn newer_source(root: &Path, made: SystemTime) -> io::Result<Option<PathBuf>> {
     let list = root.join("crates.txt");
     let crates = closure(&fs::read_to_string(&list)?);
-    let mut paths = vec![list];
+    // Its own sources at least are there.
+    let mut paths = vec![list, root.join("crates").join(CRATE).join("src")];
     for name in crates {
         let folder = root.join("crates").join(name);
         // What a crate stands on may be the toolchain's.
@@ -201,9 +202,11 @@ mod tests {
 
     #[test]
     fn sources_that_cannot_be_read_are_refused() {
-        let checkout = Checkout::new("unread");
-        fs::remove_file(checkout.root.join("crates.txt")).unwrap();
-        let message = checkout.refusal(checkout.made()).expect("no list of the crates");
-        assert!(message.contains("cannot be compared"), "{message}");
+        for (i, gone) in ["crates.txt", "crates/xbm_c/src"].into_iter().enumerate() {
+            let checkout = Checkout::new(&format!("unread{i}"));
+            fs::rename(checkout.root.join(gone), checkout.root.join("elsewhere")).unwrap();
+            let message = checkout.refusal(checkout.made()).expect(gone);
+            assert!(message.contains("cannot be compared"), "{message}");
+        }
     }
 }
