@@ -4,12 +4,12 @@ use mathlib.Core.Logic.{_⊎_, inl, inr}
 use Prim.Native.Nat.{ℕ, suc, _+_, _≤_, _<_}
 use native.Mathlib.Omega.{arith}
 use mathlib.Core.Option.{Option, none, some}
-use mathlib.Core.Bool.{Bool, true, false, not}
+use mathlib.Core.Bool.{Bool, true, false, not, _||_}
 use mathlib.Core.List.{List, [], _∷_, _++_, append-nil, append-assoc}
 use lib.ListN.{length, length-append}
-use lib.Dec.{ltb}
+use lib.Dec.{eqb, ltb}
 use lib.IntN.{ℤ}
-use borrow.Author.Tests.{ltb-true, ltb-false}
+use borrow.Author.Tests.{ltb-true, ltb-false, eqb-true}
 use Rattle.text.specs.declared.TextLocation.{TextLocation}
 use Rattle.text.specs.Ascii.{ascii}
 use Rattle.text.specs.Place.{pick, byteOf, rest, after, start, past}
@@ -21,7 +21,7 @@ use Rattle.header.specs.Header.{Head, hashDefine, endWidth, before, value, line
 use Rattle.image.specs.Rows.{whole-local}
 use Rattle.image.specs.Reading.{picture}
 use Rattle.grammar.specs.Lang.{Lang, Word, Lit, _·_, All, Star}
-use Rattle.grammar.specs.Grammar.{Mask, space, solid, Gap, Skipped, Define, Symbol, Side, Coordinate}
+use Rattle.grammar.specs.Grammar.{blank, space, solid, Gap, Skipped, Define, Symbol, Side, Coordinate}
 use Rattle.grammar.specs.Bind.{past-append, past-byte, move}
 use Rattle.grammar.specs.Tests.{before→ends, ends→before, want-inv}
 use Rattle.grammar.specs.Fits.{Follow, Any, Off, At, Fits}
@@ -62,6 +62,18 @@ run-checks {K = K} {F = F} {P = P} h hp hf = record {
   near = bind-local (hp .near) (λ a. hf a .near);
   sharp = bind-looks (λ a. P) (hp .near) (λ a. hf a .near) (hp .sharp) (λ a. hf a .sharp) (λ t i c e x. absurd x) (λ t i a m c e q x. record { place = m; word = weak K F t i m (h .to t i m q .1); check = x });
 }
+
+-- and what follows the word is as the reader left it
+run-follows : {B : Type 0} {p : Reader (Unit {0})} {f : Unit {0} → Reader B} {K : Lang} {F : Follow} {P : Looks} → Fits p tt (Unit {0}) K F → Checked Never p → ((a : Unit {0}) → Checked P (f a))
+    → Checked (After K (λ t i c e. F (rest t i) × P t i c e)) (p >>= f)
+unfolding Never
+run-follows {K = K} {F = F} {P = P} h hp hf = record {
+  near = bind-local (hp .near) (λ a. hf a .near);
+  sharp = bind-looks (λ a. P) (hp .near) (λ a. hf a .near) (hp .sharp) (λ a. hf a .sharp) (λ t i c e x. absurd x) (λ t i a m c e q x. go t i m c e (h .to t i m q .1) x);
+}
+  where
+    go : (t : List ℕ) (i m : TextLocation) (c : ℕ) (e : TextLocation) → At K F t i m → P t m c e → After K (λ t i c e. F (rest t i) × P t i c e) t i c e
+    go t i m c e (w, r, d, l, f, o) x = record { place = m; word = weak K F t i m (w, r, d, l, f, o); check = (rw (ap (rest t) o ∙ move w r t i d) f, x) }
 
 -- after the first none looks
 first-checks : {A B : Type 0} {p : Reader A} {f : A → Reader B} {P : Looks} → Checked P p → ((a : A) → Checked Never (f a)) → Checked P (p >>= f)
@@ -201,26 +213,30 @@ module _ {A : Type 0} (limit : ℕ) (f : List ℕ → List ℕ → Reader A) (h 
 
 pub data Found (limit : ℕ) (t : List ℕ) (i : TextLocation) (c : ℕ) (e : TextLocation) : Type 0 where
   symbol-long : After Opening (Long 1 limit) t i c e → Found limit t i c e
-  symbol-bare : After Opening (Bare limit) t i c e → Found limit t i c e
+  symbol-bare : After Opening (λ t i c e. Off blank (rest t i) × Bare limit t i c e) t i c e → Found limit t i c e
   token-long : (n : ℕ) → After (Lead limit n) (Long n 11) t i c e → Found limit t i c e
+
+-- a symbol after all blanks of its gap
+abbrev Reads : ℕ → Looks
+Reads limit t i c e = Off blank (rest t i) × SymbolLooks limit t i c e
 
 -- up to the width line's end
 front-checks : (limit : ℕ) → Checked (Found limit) (first limit)
 unfolding first widthLine
 front-checks limit =
-    checked-weak (λ t i c e x. there t i c e x (x .check .check .check))
-    (run-checks leading-fits (record { near = leading-local 1 true; sharp = leading-sharp 1 true }) (λ a. run-checks (fixed-fits 1 hashDefine) (fixed-checks 1 hashDefine) (λ a. run-checks (gap-fits 1) (gap-checks 1) (λ a. symbol-checks limit (λ name w. unsigned 11 w >>= λ v. need 21 (positive v) >>= λ n. give (name, n)) (λ name w. first-checks (need-checks 11 _) (λ v. first-checks (need-checks 21 _) (λ n. give-checks (name, n))))))))
+    checked-weak (λ t i c e x. (let (o, y) = x .check .check .check in there t i c e x o y))
+    (run-checks leading-fits (record { near = leading-local 1 true; sharp = leading-sharp 1 true }) (λ a. run-checks (fixed-fits 1 hashDefine) (fixed-checks 1 hashDefine) (λ a. run-follows (gap-fits 1) (gap-checks 1) (λ a. symbol-checks limit (λ name w. unsigned 11 w >>= λ v. need 21 (positive v) >>= λ n. give (name, n)) (λ name w. first-checks (need-checks 11 _) (λ v. first-checks (need-checks 21 _) (λ n. give-checks (name, n))))))))
   where
     -- with what is known in place of what may be
-    onto : (P : Looks) (t : List ℕ) (i : TextLocation) (c : ℕ) (e : TextLocation) (x : After (Star Skipped) (After (Lit "#define") (After Gap (SymbolLooks limit))) t i c e) → P t (x .check .check .place) c e → After Opening P t i c e
+    onto : (P : Looks) (t : List ℕ) (i : TextLocation) (c : ℕ) (e : TextLocation) (x : After (Star Skipped) (After (Lit "#define") (After Gap (Reads limit))) t i c e) → P t (x .check .check .place) c e → After Opening P t i c e
     onto P t i c e x y =
         flat P t i c e (Star Skipped) (Lit "#define" · Gap) (record { place = x .place; word = x .word; check =
         flat P t (x .place) c e (Lit "#define") Gap (record { place = x .check .place; word = x .check .word; check = record { place = x .check .check .place; word = x .check .check .word; check = y } }) })
 
-    there : (t : List ℕ) (i : TextLocation) (c : ℕ) (e : TextLocation) (x : After (Star Skipped) (After (Lit "#define") (After Gap (SymbolLooks limit))) t i c e) → SymbolLooks limit t (x .check .check .place) c e → Found limit t i c e
-    there t i c e x (too-long y) = symbol-long (onto (Long 1 limit) t i c e x y)
-    there t i c e x (bare y) = symbol-bare (onto (Bare limit) t i c e x y)
-    there t i c e x (valued name y) =
+    there : (t : List ℕ) (i : TextLocation) (c : ℕ) (e : TextLocation) (x : After (Star Skipped) (After (Lit "#define") (After Gap (Reads limit))) t i c e) → Off blank (rest t (x .check .check .place)) → SymbolLooks limit t (x .check .check .place) c e → Found limit t i c e
+    there t i c e x o (too-long y) = symbol-long (onto (Long 1 limit) t i c e x y)
+    there t i c e x o (bare y) = symbol-bare (onto (λ t i c e. Off blank (rest t i) × Bare limit t i c e) t i c e x (o, y))
+    there t i c e x o (valued name y) =
         token-long 1 (same-words (Long 1 11) t i c e (Star Skipped · Named (Symbol limit name)) (Lead limit 1) (λ w k. width name k) (
         flat (Long 1 11) t i c e (Star Skipped) (Named (Symbol limit name)) (record { place = x .place; word = x .word; check =
         flat (Long 1 11) t (x .place) c e (Lit "#define") (Gap · Symbol limit name · Gap) (record { place = x .check .place; word = x .check .word; check =
@@ -300,6 +316,16 @@ picture-checks limit n = first-checks (header-checks limit) (λ h. first-checks 
 
 -- ---- from the text's start
 
+-- no solid byte and no blank: a newline
+newline : (w : List ℕ) (b : ℕ) (v : List ℕ) → Off blank (w ++ (b ∷ v)) → solid b ≡ false → w ≡ [] → b ≡ 10
+unfolding Off
+newline [] b v h f e = eqb-true b 10 (go (eqb b 10) (rw h at f))
+  where
+    go : (d : Bool) → not (false || d) ≡ false → d ≡ true
+    go true f = refl
+    go false f = sym f
+newline (x ∷ w) b v h f e = let z : _≡_ {A = ℕ} 0 1 = cc in absurd (omega arith)
+
 module _ (limit : ℕ) (t : List ℕ) (c : ℕ) (p : TextLocation) where
   placed : (K : Lang) (m : TextLocation) (w r : List ℕ) → At K Any t start m → rest t m ≡ w ++ r → p ≡ past m w → (u : List ℕ) × K u × (t ≡ u ++ (w ++ r)) × (byteOf p ≡ length (u ++ w))
   placed K m w r (u, s, d, k, f, o) q z = (u, k, sym (start-rest t) ∙ d ∙ ap (λ (x : List ℕ). u ++ x) (sym (move u s t start d) ∙ ap (rest t) (sym o) ∙ q),
@@ -314,10 +340,12 @@ module _ (limit : ℕ) (t : List ℕ) (c : ℕ) (p : TextLocation) where
       let (g, w, b, v, q, a, l, s, z) = x .check in
       let (u, k, d, o) = placed (Lead limit n) (x .place) w (b ∷ v) (x .word) q z in
       inr (rw g (long-token n u w b (v, d, o) k a l s))
-  found (symbol-bare x) = let (n, w, r, q, a, l, g, f, z) = x .check in other w r n q a l g f z
+  found (symbol-bare x) = let (h, (n, w, r, q, a, l, g, f, z)) = x .check in other w r (rw q at h) n q a l g f z
     where
-      other : (w r : List ℕ) → c ≡ 1 → rest t (x .place) ≡ w ++ r → All solid w → length w ≤ limit → ((name : List ℕ) → w ≡ name ++ ascii "_width" → ⊥) → Off solid r → p ≡ past (x .place) w → (rest t p ≡ []) ⊎ Looked limit t p c
-      other w [] n q a l g f z = inl (rw z (move w [] t (x .place) q))
-      other w (b ∷ v) n q a l g f z =
+      other : (w r : List ℕ) → Off blank (w ++ r) → c ≡ 1 → rest t (x .place) ≡ w ++ r → All solid w → length w ≤ limit → ((name : List ℕ) → w ≡ name ++ ascii "_width" → ⊥) → Off solid r → p ≡ past (x .place) w
+          → (rest t p ≡ []) ⊎ Looked limit t p c
+      other w [] h n q a l g f z = inl (rw z (move w [] t (x .place) q))
+      other w (b ∷ v) h n q a l g f z =
           let (u, k, d, o) = placed Opening (x .place) w (b ∷ v) (x .word) q z in
-          inr (rw n (no-width u w b (v, d, o) k a l g (unfold Off in f)))
+          let e : solid b ≡ false = unfold Off in f in
+          inr (rw n (no-width u w b (v, d, o) k a l g e (newline w b v h e)))

@@ -57,7 +57,7 @@ inside-ahead t p u w b (v, q, z) = omega (arith, ap length q, length-append u (w
 
 looked-inside : (limit : ℕ) (t : List ℕ) (p : TextLocation) (c : ℕ) → Looked limit t p c → byteOf p < length t
 looked-inside limit t p c (long-symbol u w b a k s l h) = inside-ahead t p u w b a
-looked-inside limit t p c (no-width u w b a k s l g h) = inside-ahead t p u w b a
+looked-inside limit t p c (no-width u w b a k s l g h e) = inside-ahead t p u w b a
 looked-inside limit t p c (long-token d u w b a k s l h) = inside-ahead t p u w b a
 
 -- ---- the place

@@ -55,9 +55,9 @@ pub data Lead (limit : ℕ) : ℕ → List ℕ → Type 0 where
 pub data Looked (limit : ℕ) (text : List ℕ) (p : TextLocation) : ℕ → Type 0 where
   -- a symbol too long: as many solid bytes as it may have, and the next one is solid too
   long-symbol : (u w : List ℕ) (b : ℕ) → Ahead text p u w b → Opening u → All solid w → length w ≡ limit → solid b ≡ true → Looked limit text p 1
-  -- a symbol without `_width`: the next byte, a blank or a newline, ends it
+  -- a symbol without `_width`: the next byte, a blank or a newline, ends it (an empty one ends at a newline: the gap has taken the blanks)
   no-width : (u w : List ℕ) (b : ℕ) → Ahead text p u w b → Opening u → All solid w → length w ≤ limit → ((name : List ℕ) → w ≡ name ++ ascii "_width" → ⊥)
-      → solid b ≡ false → Looked limit text p 1
+      → solid b ≡ false → (w ≡ [] → b ≡ 10) → Looked limit text p 1
   -- a token too long: eleven solid bytes, and the next one is solid too
   long-token : (c : ℕ) (u w : List ℕ) (b : ℕ) → Ahead text p u w b → Lead limit c u → All solid w → length w ≡ 11 → solid b ≡ true → Looked limit text p c
 
