@@ -5,6 +5,7 @@ pub mod Sharp
 pub mod Looks
 pub mod Telling
 pub mod Places
+pub mod Vacuous
 pub mod Saving
 pub mod SavingLeaves
 pub mod SavingRuns

@@ -201,7 +201,7 @@ module _ {A : Type 0} (limit : ℕ) (f : List ℕ → List ℕ → Reader A) (h 
       go : (t : List ℕ) (i : TextLocation) (s : List ℕ) (m : TextLocation) (c : ℕ) (e : TextLocation) → (All solid s × (length s ≤ limit)) × At (Word s) (Off solid) t i m → Ended s t m c e → SymbolLooks limit t i c e
       go t i s m c e ((a, n), (w, r, d, l, o, z)) (unnamed x y q) =
           let k : w ≡ s = unfold Word in l in
-          bare (x, s, r, d ∙ ap (λ (v : List ℕ). v ++ r) k, a, n, (λ name u. (let z : _≡_ {A = ℕ} 0 1 = cc (sym q, ap (before endWidth) u, ends→before endWidth name) in omega arith)), o, y ∙ z ∙ ap (past i) k)
+          bare (x, s, r, d ∙ ap (λ (v : List ℕ). v ++ r) k, a, n, (λ name u. (let z : _≡_ {A = ℕ} 0 1 = cc (sym q, ends→before endWidth name) in omega arith)), o, y ∙ z ∙ ap (past i) k)
       go t i s m c e ((a, n), p) (named name q x) =
           let b : s ≡ name ++ endWidth = before→ends endWidth s name q in
           valued name (flat (Long 1 11) t i c e (Symbol limit name) Gap (record { place = m; word = word b p; check = x }))
