@@ -1,11 +1,11 @@
 -- The header's checks that look ahead, line by line: what stands before the place, in words of the grammar, and the byte that they looked at.
 use mathlib.Core.Path.{_≡_, refl, sym, ap, _∙_}
 use mathlib.Core.Logic.{_⊎_, inl, inr}
-use Prim.Native.Nat.{ℕ, suc, _+_, _≤_, _<_}
+use Prim.Native.Nat.{ℕ, _≤_, _<_}
 use native.Mathlib.Omega.{arith}
 use mathlib.Core.Option.{Option, none, some}
 use mathlib.Core.Bool.{Bool, true, false, not, _||_}
-use mathlib.Core.List.{List, [], _∷_, _++_, append-nil, append-assoc}
+use mathlib.Core.List.{List, [], _∷_, _++_, append-assoc}
 use lib.ListN.{length, length-append}
 use lib.Dec.{eqb, ltb}
 use lib.IntN.{ℤ}
@@ -13,11 +13,11 @@ use borrow.Author.Tests.{ltb-true, ltb-false, eqb-true}
 use Rattle.text.specs.declared.TextLocation.{TextLocation}
 use Rattle.text.specs.Ascii.{ascii}
 use Rattle.text.specs.Place.{pick, byteOf, rest, after, start, past}
-use Rattle.text.specs.Reader.{Result, ok, stop, bad, Reader, _>>=_, _>>_, Local, bind-local}
-use Rattle.text.specs.Leaf.{give, want, need, fork, moved, scan, run, go-on, stay, halt, give-local, want-local, need-local, fork-local}
+use Rattle.text.specs.Reader.{Reader, _>>=_, Local, bind-local}
+use Rattle.text.specs.Leaf.{give, want, need, moved, scan, run, go-on, stay, halt, give-local, want-local, need-local, fork-local}
 use Rattle.lexical.specs.Lexical.{isLoose, fixed, gap, lineEnd, leading, fixed-local, gap-local, lineEnd-local, leading-local}
 use Rattle.lexical.specs.Token.{upTo, token, token-local}
-use Rattle.header.specs.Header.{Head, hashDefine, endWidth, before, value, line, side, signed, unsigned, positive, widthLine, arrayLine, ending, hotspot, rest as headerRest, header, line-laws, width-local, rest-local, array-local}
+use Rattle.header.specs.Header.{hashDefine, endWidth, before, value, line, side, signed, unsigned, positive, widthLine, ending, hotspot, rest as headerRest, header, array-local}
 use Rattle.image.specs.Rows.{whole-local}
 use Rattle.image.specs.Reading.{picture}
 use Rattle.grammar.specs.Lang.{Lang, Word, Lit, _·_, All, Star}
@@ -230,17 +230,29 @@ front-checks limit =
     -- with what is known in place of what may be
     onto : (P : Looks) (t : List ℕ) (i : TextLocation) (c : ℕ) (e : TextLocation) (x : After (Star Skipped) (After (Lit "#define") (After Gap (Reads limit))) t i c e) → P t (x .check .check .place) c e → After Opening P t i c e
     onto P t i c e x y =
-        flat P t i c e (Star Skipped) (Lit "#define" · Gap) (record { place = x .place; word = x .word; check =
-        flat P t (x .place) c e (Lit "#define") Gap (record { place = x .check .place; word = x .check .word; check = record { place = x .check .check .place; word = x .check .check .word; check = y } }) })
+        flat P t i c e (Star Skipped) (Lit "#define" · Gap) (record {
+          place = x .place;
+          word = x .word;
+          check =
+              flat P t (x .place) c e (Lit "#define") Gap (record { place = x .check .place; word = x .check .word; check = record { place = x .check .check .place; word = x .check .check .word; check = y } });
+        })
 
     there : (t : List ℕ) (i : TextLocation) (c : ℕ) (e : TextLocation) (x : After (Star Skipped) (After (Lit "#define") (After Gap (Reads limit))) t i c e) → Off blank (rest t (x .check .check .place)) → SymbolLooks limit t (x .check .check .place) c e → Found limit t i c e
     there t i c e x o (too-long y) = symbol-long (onto (Long 1 limit) t i c e x y)
     there t i c e x o (bare y) = symbol-bare (onto (λ t i c e. Off blank (rest t i) × Bare limit t i c e) t i c e x (o, y))
     there t i c e x o (valued name y) =
         token-long 1 (same-words (Long 1 11) t i c e (Star Skipped · Named (Symbol limit name)) (Lead limit 1) (λ w k. width name k) (
-        flat (Long 1 11) t i c e (Star Skipped) (Named (Symbol limit name)) (record { place = x .place; word = x .word; check =
-        flat (Long 1 11) t (x .place) c e (Lit "#define") (Gap · Symbol limit name · Gap) (record { place = x .check .place; word = x .check .word; check =
-        flat (Long 1 11) t (x .check .place) c e Gap (Symbol limit name · Gap) (record { place = x .check .check .place; word = x .check .check .word; check = y }) }) })))
+        flat (Long 1 11) t i c e (Star Skipped) (Named (Symbol limit name)) (record {
+          place = x .place;
+          word = x .word;
+          check =
+              flat (Long 1 11) t (x .place) c e (Lit "#define") (Gap · Symbol limit name · Gap) (record {
+                place = x .check .place;
+                word = x .check .word;
+                check =
+                    flat (Long 1 11) t (x .check .place) c e Gap (Symbol limit name · Gap) (record { place = x .check .check .place; word = x .check .check .word; check = y });
+              });
+        })))
 
 -- known of a name of solid bytes
 abbrev Given : List ℕ → Looks → Looks
@@ -328,8 +340,12 @@ newline (x ∷ w) b v h f e = let z : _≡_ {A = ℕ} 0 1 = cc in absurd (omega 
 
 module _ (limit : ℕ) (t : List ℕ) (c : ℕ) (p : TextLocation) where
   placed : (K : Lang) (m : TextLocation) (w r : List ℕ) → At K Any t start m → rest t m ≡ w ++ r → p ≡ past m w → (u : List ℕ) × K u × (t ≡ u ++ (w ++ r)) × (byteOf p ≡ length (u ++ w))
-  placed K m w r (u, s, d, k, f, o) q z = (u, k, sym (start-rest t) ∙ d ∙ ap (λ (x : List ℕ). u ++ x) (sym (move u s t start d) ∙ ap (rest t) (sym o) ∙ q),
-    omega (arith, ap byteOf z, past-byte m w, ap byteOf o, past-byte start u, length-append u w))
+  placed K m w r (u, s, d, k, f, o) q z = (
+    u,
+    k,
+    sym (start-rest t) ∙ d ∙ ap (λ (x : List ℕ). u ++ x) (sym (move u s t start d) ∙ ap (rest t) (sym o) ∙ q),
+    omega (arith, ap byteOf z, past-byte m w, ap byteOf o, past-byte start u, length-append u w),
+  )
 
   pub found : Found limit t start c p → (rest t p ≡ []) ⊎ Looked limit t p c
   found (symbol-long x) =

@@ -1,5 +1,6 @@
--- THE CLAIMS ON PLACES. To believe them, read: the grammar (Lang and Grammar), the reading (Reading and what it names), the words used here
--- (Terms, and those of the claims and of the refusals that it names), and this file. Every proof below is a citation.
+-- THE CLAIMS ON PLACES. To believe them, read: the grammar (Lang and Grammar), the reading that all contracts cite
+-- (Reading and what it names), Terms (the words here, and what it takes from the Terms of `claims` and `refusals`),
+-- and this file. Every proof below is a citation.
 use mathlib.Core.Path.{_≡_}
 use Prim.Native.Nat.{ℕ, _≤_}
 use mathlib.Core.List.{List}
@@ -20,11 +21,14 @@ pub record Tells (text name pixels : List ℕ) (c : ℕ) (p : TextLocation) : Ty
   -- that is: byte is a count of bytes, line of newlines, column of the bytes since the last newline
   pub counted : Counted (take (byteOf p) text) p
   -- no cut up to there is refused for good: a refusal of the first n bytes is at their own end
-  pub early : (n : ℕ) → n ≤ byteOf p → (d : ℕ) (q : TextLocation) → reading (take n text) name pixels .answer ≡ refused d q → q ≡ past start (take n text)
-  -- the text ends there; or the byte just before is the wrong one; or it is one of the three checks that only look ahead, and the next byte is the one
+  pub early : (n : ℕ) → n ≤ byteOf p → (d : ℕ) (q : TextLocation)
+      → reading (take n text) name pixels .answer ≡ refused d q → q ≡ past start (take n text)
+  -- the text ends there; or the byte just before is the wrong one; or it is one of the three checks that only look
+  -- ahead, and the next byte is the one
   pub how : How text name pixels c p
 
-pub tells : (text name pixels : List ℕ) (c : ℕ) (p : TextLocation) → reading text name pixels .answer ≡ refused c p → Tells text name pixels c p
+pub tells : (text name pixels : List ℕ) (c : ℕ) (p : TextLocation) → reading text name pixels .answer ≡ refused c p
+    → Tells text name pixels c p
 tells t name pixels c p a = record {
   inside = Telling.inside t name pixels c p a;
   there = Telling.there t name pixels c p a;

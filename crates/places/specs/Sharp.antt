@@ -1,32 +1,21 @@
 -- How a reader's refusal with a place comes about: the text ends there; or the bytes up to it decide it, whatever follows; or it looked ahead, as a relation says. The readers here never do.
-use mathlib.Core.Path.{_≡_, refl, sym, ap, _∙_}
-use Prim.Native.Nat.{ℕ, zero, suc, _+_, _*_, _/_, _≤_, _<_}
+use mathlib.Core.Path.{_≡_, refl, ap, _∙_}
+use Prim.Native.Nat.{ℕ, zero, suc, _+_, _/_, _<_}
 use native.Mathlib.Omega.{arith}
 use mathlib.Core.Option.{Option, none, some}
-use mathlib.Core.Bool.{Bool, true, false, false≢true}
-use mathlib.Core.List.{List, [], _∷_, _++_}
-use native.Mathlib.Nat.{le-of-suc-le-suc, not-suc-le-zero}
-use native.Mathlib.Decide.{decLt}
-use lib.ListN.{length, take, drop, getElem?, take-append-drop, length-drop}
-use lib.Seq.{length-take-le, take-all}
-use lib.Dec.{eqb, leb, ltb}
-use borrow.Author.Tests.{leb-true, le-leb}
+use mathlib.Core.Bool.{Bool, true, false}
+use mathlib.Core.List.{List, [], _∷_}
+use lib.Dec.{eqb, ltb}
 use Rattle.text.specs.declared.TextLocation.{TextLocation}
-use Rattle.text.specs.Place.{pick, byteOf, rest, after, start, past}
-use Rattle.text.specs.Rest.{after-rest, rest-agree, Walk, Reach, reach-inside, reach-same, walk-unique, walk-sound, Sound}
-use Rattle.text.specs.Reader.{Result, ok, stop, bad, endOf, Reader, then, _>>=_, _>>_, Local, Same, ahead, same-take, cut-end, bind-local}
-use Rattle.text.specs.Leaf.{give, want, need, one, first, judge, Move, go-on, stay, halt, moved, scan, run, fork, forkOf, choose, eot, endIf, Alike, nils, heads, alike, give-local}
-use Rattle.text.specs.Outcome.{Outcome, accepted, refused, unplaced, outcome}
-use Rattle.lexical.specs.Lexical.{is, while, lead, byte, skip, fixed, gap, lineEnd, leading, isLoose, locals, byte-local, fixed-local}
-use Rattle.lexical.specs.Token.{upTo, token}
+use Rattle.text.specs.Place.{pick, byteOf, rest, after}
+use Rattle.text.specs.Rest.{after-rest, rest-agree}
+use Rattle.text.specs.Reader.{Result, ok, stop, bad, endOf, Reader, then, _>>=_, Local, Same, ahead, bind-local}
+use Rattle.text.specs.Leaf.{give, need, one, first, judge, go-on, stay, moved, scan, run, fork, forkOf, choose, eot, endIf, Alike, heads, alike, give-local}
+use Rattle.lexical.specs.Lexical.{is, while, lead, byte, skip, fixed, gap, lineEnd, leading, locals, byte-local, fixed-local}
 use Rattle.lexical.specs.Hex.{hexv, hexDigit, hexStart, hexDigits, hexUnit, hexUnit-local, hexDigits-local, hexDigit-local}
-use Rattle.header.specs.Header.{Head, widthLine, element, arrayLine, rest as headerRest, header, line-laws, width-local, rest-local, element-local, array-local, header-local}
-use Rattle.decoder.specs.Data.{item, items, brace, closing, tail, trailer, item-local, items-local, closing-local, tail-local, trailer-local, brace-local}
-use Rattle.image.specs.Rows.{count, ending, whole, whole-local}
-use Rattle.image.specs.Reading.{picture, reading}
-use Rattle.grammar.specs.Bind.{past-byte}
-use Rattle.grammar.specs.Exact.{start-rest}
-use Rattle.claims.specs.Cuts.{walk-past}
+use Rattle.header.specs.Header.{element, arrayLine, line-laws}
+use Rattle.decoder.specs.Data.{item, items, brace, closing, tail, trailer, item-local, items-local, closing-local, trailer-local, brace-local}
+use Rattle.image.specs.Rows.{count, ending, whole}
 
 -- what is known where a reader, started at a place of a text, looked ahead: its number, and the place that it tells
 abbrev pub Looks : Type 1

@@ -18,7 +18,7 @@ use Rattle.image.specs.Reading.{picture, reading}
 use Rattle.grammar.specs.Bind.{past-byte}
 use Rattle.grammar.specs.Exact.{start-rest}
 use Rattle.claims.specs.Cuts.{walk-past}
-use Rattle.places.specs.Terms.{Counted, Ahead, Looked, long-symbol, no-width, long-token, How, ended, wrong, looked}
+use Rattle.places.specs.Terms.{Counted, Ahead, Looked, long-symbol, no-width, long-token, Settled, How, ended, wrong, looked}
 use Rattle.places.specs.Sharp.{ends, decided, saw, Sure}
 use Rattle.places.specs.Looks.{Found, picture-checks, found}
 use Rattle.places.specs.Counts
@@ -96,8 +96,8 @@ module _ (t name pixels : List ℕ) (c : ℕ) (p : TextLocation) (a : reading t 
       omega (arith, inside, length-drop (byteOf p) t, ap length (rw (le-leb (p .column .0) (p .byte .0) (s .column), le-leb (p .line .0) (p .byte .0 + 1) (s .line)) at e))
 
   -- with the next byte it is settled
-  settled : byteOf p < length t → (v : List ℕ) → reading (take (suc (byteOf p)) t ++ v) name pixels .answer ≡ refused c p
-  settled l v = told-so (take (suc (byteOf p)) t ++ v) name pixels c p (picture-checks limit cells .near .near t (take (suc (byteOf p)) t ++ v) start (rw at-it (same-first (suc (byteOf p)) t v l)) ∙ at-it)
+  settled : byteOf p < length t → Settled t name pixels (byteOf p + 1) c p
+  settled l v = told-so (take (byteOf p + 1) t ++ v) name pixels c p (picture-checks limit cells .near .near t (take (byteOf p + 1) t ++ v) start (rw at-it (λ j h. same-first (byteOf p + 1) t v (omega arith) j (omega arith))) ∙ at-it)
 
   pub how : How t name pixels c p
   how = go (picture limit cells t start) at-it (picture-checks limit cells .sharp .sharp t start)

@@ -1,7 +1,8 @@
--- The words that the claims on places are stated in, beside those of the grammar, of the claims and of the table of refusals. No reader is in them.
+-- The words that the claims on places are stated in, beside the grammar's, the claims' and the refusals'.
+-- No reader is in them.
 use mathlib.Core.Path.{_≡_}
 use mathlib.Core.Logic.{_⊎_}
-use Prim.Native.Nat.{ℕ, suc, _+_, _≤_, _<_, min}
+use Prim.Native.Nat.{ℕ, _+_, _≤_, _<_, min}
 use mathlib.Core.Bool.{true, false, not}
 use mathlib.Core.List.{List, [], _∷_, _++_}
 use lib.ListN.{length, take}
@@ -44,29 +45,39 @@ Ahead text p u w b = (v : List ℕ) × (text ≡ u ++ (w ++ (b ∷ v))) × (byte
 abbrev pub Named : Lang → Lang
 Named symbol = Lit "#define" · Gap · symbol · Gap
 
--- a text up to the integer token of the width line, 1, the height line, 2, and the lines for `_x_hot`, 3, and `_y_hot`, 4
+-- a text up to the integer token of line c: the width line, the height line, those for `_x_hot` and `_y_hot`
 pub data Lead (limit : ℕ) : ℕ → List ℕ → Type 0 where
   width : (name : List ℕ) {u : List ℕ} → (Star Skipped · Named (Symbol limit name)) u → Lead limit 1 u
-  height : (m : Mask) {u : List ℕ} → (Front limit (m .name) (Side (m .width)) · Named (Word (m .name ++ ascii "_height"))) u → Lead limit 2 u
+  height : (m : Mask) {u : List ℕ}
+      → (Front limit (m .name) (Side (m .width)) · Named (Word (m .name ++ ascii "_height"))) u → Lead limit 2 u
   x-hot : (m : Mask) {u : List ℕ} → (Sides limit m · Named (Word (m .name ++ ascii "_x_hot"))) u → Lead limit 3 u
-  y-hot : (m : Mask) (x : ℤ) {u : List ℕ} → (Third limit m (Coordinate x) · Named (Word (m .name ++ ascii "_y_hot"))) u → Lead limit 4 u
+  y-hot : (m : Mask) (x : ℤ) {u : List ℕ}
+      → (Third limit m (Coordinate x) · Named (Word (m .name ++ ascii "_y_hot"))) u → Lead limit 4 u
 
--- which of the three told number c at p
+-- the one that told number c at p
 pub data Looked (limit : ℕ) (text : List ℕ) (p : TextLocation) : ℕ → Type 0 where
   -- a symbol too long: as many solid bytes as it may have, and the next one is solid too
-  long-symbol : (u w : List ℕ) (b : ℕ) → Ahead text p u w b → Opening u → All solid w → length w ≡ limit → solid b ≡ true → Looked limit text p 1
-  -- a symbol without `_width`: the next byte, a blank or a newline, ends it (an empty one ends at a newline: the gap has taken the blanks)
-  no-width : (u w : List ℕ) (b : ℕ) → Ahead text p u w b → Opening u → All solid w → length w ≤ limit → ((name : List ℕ) → w ≡ name ++ ascii "_width" → ⊥)
+  long-symbol : (u w : List ℕ) (b : ℕ) → Ahead text p u w b → Opening u → All solid w → length w ≡ limit
+      → solid b ≡ true → Looked limit text p 1
+  -- a symbol without `_width`: the next byte, a blank or a newline, ends it
+  -- (a newline where the symbol is empty, since its gap has all blanks)
+  no-width : (u w : List ℕ) (b : ℕ) → Ahead text p u w b → Opening u → All solid w → length w ≤ limit
+      → ((name : List ℕ) → w ≡ name ++ ascii "_width" → ⊥)
       → solid b ≡ false → (w ≡ [] → b ≡ 10) → Looked limit text p 1
   -- a token too long: eleven solid bytes, and the next one is solid too
-  long-token : (c : ℕ) (u w : List ℕ) (b : ℕ) → Ahead text p u w b → Lead limit c u → All solid w → length w ≡ 11 → solid b ≡ true → Looked limit text p c
+  long-token : (c : ℕ) (u w : List ℕ) (b : ℕ) → Ahead text p u w b → Lead limit c u → All solid w → length w ≡ 11
+      → solid b ≡ true → Looked limit text p c
 
 -- ---- how a refusal with number c and place p comes about
+
+-- every text that begins with the first n bytes of this one is refused with c at p
+abbrev pub Settled : List ℕ → List ℕ → List ℕ → ℕ → ℕ → TextLocation → Type 0
+Settled text name pixels n c p = (v : List ℕ) → reading (take n text ++ v) name pixels .answer ≡ refused c p
 
 pub data How (text name pixels : List ℕ) (c : ℕ) (p : TextLocation) : Type 0 where
   -- the text ends there
   ended : byteOf p ≡ length text → How text name pixels c p
-  -- the byte just before is the wrong one: with the bytes up to it, every text is refused so
-  wrong : 0 < byteOf p → ((v : List ℕ) → reading (take (byteOf p) text ++ v) name pixels .answer ≡ refused c p) → How text name pixels c p
-  -- a check looked ahead, and the next byte is the one: with the bytes up to that, every text is refused so
-  looked : Looked (length name) text p c → ((v : List ℕ) → reading (take (suc (byteOf p)) text ++ v) name pixels .answer ≡ refused c p) → How text name pixels c p
+  -- the byte just before is the wrong one: the bytes up to it settle the refusal
+  wrong : 0 < byteOf p → Settled text name pixels (byteOf p) c p → How text name pixels c p
+  -- a check looked ahead, and the next byte is the one: the bytes up to that settle it
+  looked : Looked (length name) text p c → Settled text name pixels (byteOf p + 1) c p → How text name pixels c p

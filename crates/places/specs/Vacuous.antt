@@ -1,10 +1,9 @@
 -- The claims on places are not vacuous: a refusal for each way that one comes about, by computing, and the other ways do not hold of it.
 use mathlib.Core.Path.{_≡_, refl, ap}
-use Prim.Native.Nat.{ℕ, _+_, _-_, _*_, _≤_, _<_}
+use Prim.Native.Nat.{ℕ, _-_, _≤_, _<_}
 use native.Mathlib.Omega.{arith}
 use mathlib.Core.Logic.{inl}
 use mathlib.Core.Option.{none}
-use mathlib.Core.Bool.{true, false}
 use mathlib.Core.List.{List, [], _∷_, _++_}
 use lib.ListN.{length, take, replicate, length-append}
 use lib.IntN.{pos}
@@ -13,7 +12,7 @@ use Rattle.text.specs.Ascii.{ascii}
 use Rattle.text.specs.Place.{byteOf, placeOf, after, rest}
 use Rattle.text.specs.Reader.{_>>=_}
 use Rattle.text.specs.Leaf.{give, want, need, one, run, fork, eot}
-use Rattle.text.specs.Outcome.{Outcome, accepted, refused, unplaced}
+use Rattle.text.specs.Outcome.{Outcome, refused, unplaced}
 use Rattle.lexical.specs.Lexical.{isBlank, isLoose, byte, skip, fixed, gap, lineEnd, leading}
 use Rattle.lexical.specs.Token.{token}
 use Rattle.lexical.specs.Hex.{hexOf, hexv, hexDigit, isMark, hexStart, hexDigits, hexUnit}
@@ -23,13 +22,12 @@ use Rattle.decoder.specs.Data.{item, items, brace, closing, tail, trailer, logO
 use Rattle.image.specs.Cells.{cell, painted}
 use Rattle.image.specs.Rows.{whole}
 use Rattle.image.specs.Reading.{picture, reading}
-use Rattle.grammar.specs.Lang.{Lang, Word, _·_, All, Many, Some, Star, stop}
+use Rattle.grammar.specs.Lang.{Lang, Word, _·_, Many, Some, Star, stop}
 use Rattle.grammar.specs.Grammar.{Mask, solid, Gap, Skipped, Decimal, Side, Coordinate, Define, Symbol}
 use Rattle.grammar.specs.Lines.{all-test}
 use Rattle.claims.specs.Terms.{Opening}
 use Rattle.refusals.specs.Terms.{Front, Sides, Third}
-use Rattle.places.specs.Terms.{Named, Lead, width, height, x-hot, y-hot, Looked, long-symbol, no-width, long-token, How, ended, wrong, looked}
-use Rattle.places.specs.Places.{Tells, tells}
+use Rattle.places.specs.Terms.{Named, Lead, width, height, x-hot, y-hot, Looked, long-symbol, no-width, long-token, Settled, How, ended, wrong, looked}
 
 abbrev pixels : List ℕ
 pixels = replicate 9 7
@@ -46,9 +44,9 @@ unfoldable pub computing : Unit {0}
 unfolding after rest _>>=_ give want need one run fork eot isBlank isLoose byte skip fixed gap lineEnd leading token hexOf hexv hexDigit isMark hexStart hexDigits hexUnit isDigit digitsFrom restOf endsWith before positive widthLine element arrayLine header item items brace closing tail trailer logOf cell painted whole picture reading
 computing = tt
 
--- every text with the same bytes up to the place is refused so
+-- the bytes up to the place settle the refusal
 abbrev Wrong : List ℕ → List ℕ → ℕ → TextLocation → Type 0
-Wrong text name c p = (v : List ℕ) → answer (take (byteOf p) text ++ v) name ≡ refused c p
+Wrong text name c p = Settled text name pixels (byteOf p) c p
 
 other : {c d : ℕ} {p : TextLocation} → _≡_ {A = Outcome Head} (unplaced d) (refused c p) → ⊥
 other e = let z : _≡_ {A = ℕ} 0 1 = cc in omega arith
@@ -87,8 +85,25 @@ named S s k = (ascii "#define", ascii " " ++ (s ++ ascii " "), refl, refl, (asci
 
 define : (S N : Lang) (s v : List ℕ) → S s → N v → Define S N (ascii "#define " ++ (s ++ (ascii " " ++ (v ++ ascii "\n"))))
 unfolding Define _·_ Word Gap Some Many
-define S N s v k n = (ascii "#define", ascii " " ++ (s ++ (ascii " " ++ (v ++ ascii "\n"))), refl, refl, (ascii " ", s ++ (ascii " " ++ (v ++ ascii "\n")), refl, ((refl, tt), omega arith), (
-  s, ascii " " ++ (v ++ ascii "\n"), refl, k, (ascii " ", v ++ ascii "\n", refl, ((refl, tt), omega arith), (v, ascii "\n", refl, n, ([], ascii "\n", refl, tt, refl))))))
+define S N s v k n = (
+  ascii "#define",
+  ascii " " ++ (s ++ (ascii " " ++ (v ++ ascii "\n"))),
+  refl,
+  refl,
+  (
+    ascii " ",
+    s ++ (ascii " " ++ (v ++ ascii "\n")),
+    refl,
+    ((refl, tt), omega arith),
+    (
+      s,
+      ascii " " ++ (v ++ ascii "\n"),
+      refl,
+      k,
+      (ascii " ", v ++ ascii "\n", refl, ((refl, tt), omega arith), (v, ascii "\n", refl, n, ([], ascii "\n", refl, tt, refl))),
+    ),
+  ),
+)
 
 both : (K L : Lang) (u v : List ℕ) → K u → L v → (K · L) (u ++ v)
 unfolding _·_
