@@ -1,6 +1,6 @@
 -- THE CLAIMS ON PLACES. To believe them, read: the grammar (Lang and Grammar), the reading that all contracts cite
--- (Reading and what it names), Terms (the words here, and what it takes from the Terms of `claims` and `refusals`),
--- and this file. Every proof below is a citation.
+-- (Reading and what it names), Terms (the words used here, and what it names), and this file. Every proof below is a
+-- citation.
 use mathlib.Core.Path.{_≡_}
 use Prim.Native.Nat.{ℕ, _≤_}
 use mathlib.Core.List.{List}
