@@ -3,6 +3,7 @@ pub mod Terms
 pub mod Counts
 pub mod Sharp
 pub mod Looks
+pub mod Looking
 pub mod Telling
 pub mod Places
 pub mod Vacuous

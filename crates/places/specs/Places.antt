@@ -9,8 +9,9 @@ use Rattle.text.specs.declared.TextLocation.{TextLocation}
 use Rattle.text.specs.Place.{byteOf, start, past}
 use Rattle.text.specs.Outcome.{refused}
 use Rattle.image.specs.Reading.{reading}
-use Rattle.places.specs.Terms.{Counted, How}
+use Rattle.places.specs.Terms.{Counted, Looked, How}
 use Rattle.places.specs.Telling
+use Rattle.places.specs.Looking
 
 -- 1. TELLS. Of a refusal with number c and place p, for every text, name buffer and pixel buffer.
 pub record Tells (text name pixels : List ℕ) (c : ℕ) (p : TextLocation) : Type 0 where
@@ -36,3 +37,9 @@ tells t name pixels c p a = record {
   early = Telling.early t name pixels c p a;
   how = Telling.how t name pixels c p a;
 }
+
+-- 2. LOOKS. And where one of those three checks meets its byte, in whatever text, it tells its number there: 1 of a
+-- symbol, the line's of a token.
+pub looks : (text name pixels : List ℕ) (p : TextLocation) (c : ℕ) → Looked (length name) text p c
+    → reading text name pixels .answer ≡ refused c (past start (take (byteOf p) text))
+looks = Looking.refused-there
