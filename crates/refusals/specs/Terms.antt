@@ -106,7 +106,7 @@ abbrev pub NoArrayLine : ℕ → List ℕ → Type 0
 NoArrayLine limit t =
     (m : Mask) × No (Header limit m) t
     × (((m .hot ≡ none) × Begun (Sides limit m) t × No (Sides limit m · Lit "#") t)
-      ⊎ ((x : ℤ) × (y : ℤ) × (m .hot ≡ some (x, y)) × Begun (Fourth limit m x (Coordinate y)) t))
+    ⊎ ((x : ℤ) × (y : ℤ) × (m .hot ≡ some (x, y)) × Begun (Fourth limit m x (Coordinate y)) t))
 
 -- after the header and some data bytes another is wanted, and none stands there
 abbrev pub NoDataByte : ℕ → List ℕ → List ℕ → Type 0
