@@ -3,15 +3,14 @@ use mathlib.Core.Path.{_≡_, refl, sym, ap, _∙_}
 use mathlib.Core.Logic.{_⊎_, inl, inr}
 use Prim.Native.Nat.{ℕ, _+_, _*_, _^_, _≤_, _<_}
 use native.Mathlib.Omega.{arith}
-use native.Mathlib.Decide.{decLe}
+use native.Mathlib.Nat.{mul-le-mul-right, le-of-lt}
 use mathlib.Core.Bool.{Bool, true, false}
 use mathlib.Core.Option.{Option, none, some}
 use mathlib.Core.List.{List, [], _∷_, _++_}
-use lib.ListN.{length, take, drop}
-use lib.Seq.{length-take-le, take-all}
+use lib.ListN.{length, take, drop, length-take}
 use lib.Dec.{eqb, ltb}
 use lib.IntN.{ℤ}
-use borrow.Author.Tests.{ltb-true, ltb-false}
+use borrow.Author.Tests.{ltb-false}
 use Rattle.text.specs.declared.TextLocation.{TextLocation}
 use Rattle.text.specs.Place.{pick, byteOf, start}
 use Rattle.text.specs.Rest.{Reach, Sound, reach-inside, walk-sound}
@@ -19,18 +18,17 @@ use Rattle.text.specs.Reader.{Result, ok, stop, bad, then, _>>=_, Local, bind-l
 use Rattle.text.specs.Leaf.{give, give-local}
 use Rattle.text.specs.Outcome.{Outcome, accepted, refused, unplaced, outcome}
 use Rattle.header.specs.Header.{Head, header, header-local}
-use Rattle.header.specs.Answer.{stored}
-use Rattle.lexical.specs.Token.{overlay}
 use Rattle.image.specs.Rows.{whole, whole-local}
 use Rattle.image.specs.Reading.{picture, reading}
-use Rattle.listing.specs.Listing.{cellsOf, inkAt, inkOf, inkIn, pictured, unread, Listed, afterHeader, listed, listing}
+use Rattle.image.specs.Ink.{inkAt, inkOf}
+use Rattle.image.specs.Limited.{cellsOf, unpictured, pictured, afterHeader, limited}
+use Rattle.listing.specs.Listing.{inkIn, unread, listedOf, Listed, listedWithin, listed, listing}
 use Rattle.grammar.specs.Lang.{_·_}
 use Rattle.grammar.specs.Grammar.{Mask, Side, Define, Hotspot, Header, Format}
 use Rattle.grammar.specs.Devices.{made}
 use Rattle.claims.specs.Terms.{headOf, Begun, Lines}
 use Rattle.claims.specs.Numbers.{header-numbered, whole-numbered, placed-number, unplaced-number}
 use Rattle.claims.specs.Accepts.{accepts-exactly}
-use Rattle.claims.specs.Cuts
 use Rattle.claims.specs.Limits.{stands}
 use Rattle.claims.specs.Written.{Hots, ranged, Printable, lines}
 
@@ -88,24 +86,20 @@ ink-few (x ∷ l) = go (eqb x 0) (ink-few l)
     go true h = omega arith
     go false h = omega arith
 
-ink-small : (text name pixels : List ℕ) → length pixels ≤ 65536 → (a : Outcome Head) → reading text name pixels .answer ≡ a → inkIn a (reading text name pixels .pixels) < 2 ^ 64
-ink-small text name pixels h (accepted d) q =
-    let (m, e, f, r) = accepts-exactly text name pixels d .0 q in
-    omega (arith, ink-few (reading text name pixels .pixels), Cuts.whole-size text name pixels m f r)
-ink-small text name pixels h (refused c p) q = omega arith
-ink-small text name pixels h (unplaced c) q = omega arith
+below : (a b : ℕ) → a < 4294967296 → b < 4294967296 → a * b < 2 ^ 64
+below a b h k = omega (arith, mul-le-mul-right b (le-of-lt h))
+
+-- of an accepted reading, whatever cells it is counted in
+ink-small : (text name pixels cells : List ℕ) (a : Outcome Head) → reading text name pixels .answer ≡ a → inkIn a cells < 2 ^ 64
+unfolding Format _·_
+ink-small text name pixels cells (accepted d) q =
+    let (m, e, ((u, v, x, k, l), n), r) = accepts-exactly text name pixels d .0 q in
+    let (a, b, c) = ranges (length name) m u k in
+    omega (arith, ink-few (take (cellsOf d) cells), length-take (cellsOf d) cells, ap cellsOf e, below (m .width) (m .height) a b)
+ink-small text name pixels cells (refused c p) q = omega arith
+ink-small text name pixels cells (unplaced c) q = omega arith
 
 -- ---- of a listing
-
-read-lines : (text name pixels : List ℕ) → length text ≤ 65536 → length pixels ≤ 65536 → Printable (reading text name pixels .answer) × (inkIn (reading text name pixels .answer) (reading text name pixels .pixels) < 2 ^ 64)
-read-lines text name pixels s l = (printable text name pixels s, ink-small text name pixels l (reading text name pixels .answer) refl)
-
-few-cells : (n : ℕ) (cells : List ℕ) → n ≤ 65536 → length (take n cells) ≤ 65536
-few-cells n cells h = go (decLe n (length cells))
-  where
-    go : Dec (n ≤ length cells) → length (take n cells) ≤ 65536
-    go (yes l) = omega (arith, length-take-le n cells l)
-    go (no l) = rw (take-all n cells (omega arith)) (omega arith)
 
 -- a refused header tells the same whatever is lent
 refused-header : (text name : List ℕ) (r : Result Head) → header (length name) text start ≡ r → length text ≤ 65536 → ((h : Head) (e : TextLocation) → r ≡ ok h e → ⊥) → Printable (outcome (λ (h : Head). h) r)
@@ -115,20 +109,22 @@ refused-header text name (stop c e) q s n = rw q at (printable text name [] s)
 refused-header text name (bad c e) q s n = rw q at (printable text name [] s)
 
 pub prints : (text name cells : List ℕ) → Lines (listed text name cells .told) (listed text name cells .ink) (listing text name cells)
-unfolding listed afterHeader
+unfolding listedWithin limited afterHeader
 prints text name cells = let (p, k) = small in lines (listed text name cells .told) (listed text name cells .ink) p k
   where
     Small : Listed → Type 0
     Small l = Printable (l .told) × (l .ink < 2 ^ 64)
 
-    large : (d : Head) (b : Bool) → ltb 65536 (cellsOf d) ≡ b → length text ≤ 65536
-        → Small (pick b (unread (unplaced 42) (overlay (stored (length name) text) name) cells) (pictured (reading text name (take (cellsOf d) cells)) (drop (cellsOf d) cells)))
-    large d true q s = (omega arith, omega arith)
-    large d false q s = read-lines text name (take (cellsOf d) cells) s (few-cells (cellsOf d) cells (ltb-false 65536 (cellsOf d) q))
+    large : (d : Head) (b : Bool) → length text ≤ 65536
+        → Small (listedOf (pick b (unpictured (unplaced 42) (d .name) text name cells) (pictured (reading text name (take (cellsOf d) cells)) (drop (cellsOf d) cells))))
+    large d true s = (omega arith, omega arith)
+    large d false s =
+        let first = take (cellsOf d) cells in
+        (printable text name first s, ink-small text name first (reading text name first .pixels ++ drop (cellsOf d) cells) (reading text name first .answer) refl)
 
-    go : (b : Bool) → ltb 65536 (length text) ≡ b → (r : Result Head) → header (length name) text start ≡ r → Small (pick b (unread (unplaced 41) name cells) (afterHeader text name cells r))
+    go : (b : Bool) → ltb 65536 (length text) ≡ b → (r : Result Head) → header (length name) text start ≡ r → Small (pick b (unread (unplaced 41) name cells) (listedOf (afterHeader 65536 text name cells r)))
     go true q r k = (omega arith, omega arith)
-    go false q (ok d e) k = large d (ltb 65536 (cellsOf d)) refl (ltb-false 65536 (length text) q)
+    go false q (ok d e) k = large d (ltb 65536 (cellsOf d)) (ltb-false 65536 (length text) q)
     go false q (stop c e) k = (refused-header text name (stop c e) k (ltb-false 65536 (length text) q) (λ h e x. (let z : _≡_ {A = ℕ} 0 1 = cc in omega arith)), omega arith)
     go false q (bad c e) k = (refused-header text name (bad c e) k (ltb-false 65536 (length text) q) (λ h e x. (let z : _≡_ {A = ℕ} 0 1 = cc in omega arith)), omega arith)
 

@@ -22,7 +22,9 @@ use Rattle.image.specs.Rows.{whole}
 use Rattle.image.specs.Reading.{picture, reading}
 use Rattle.print.specs.Decimal.{digits}
 use Rattle.print.specs.Output.{joined}
-use Rattle.listing.specs.Listing.{cellsOf, inkOf, acceptedText, printed, Listed, afterHeader, listed, listing}
+use Rattle.image.specs.Ink.{inkOf}
+use Rattle.image.specs.Limited.{cellsOf, afterHeader, limited}
+use Rattle.listing.specs.Listing.{acceptedText, printed, Listed, listedWithin, listed, listing}
 use Rattle.grammar.specs.Grammar.{Mask, Header, Format}
 use Rattle.claims.specs.Terms.{headOf, Last, Begun, Lines}
 use Rattle.listing.specs.Sizes
@@ -33,7 +35,7 @@ use Rattle.claims.specs.Prints
 
 -- 1. MASKS. Each of document 01's masks, as a row of the table: what is printed, the name buffer and the cells, by computing.
 pub masks : map given table ≡ map wanted table
-unfolding after rest _>>=_ give want need one run fork eot isBlank isLoose byte skip fixed gap lineEnd leading token span hexOf hexv hexDigit isMark hexStart hexDigits hexUnit isDigit digitsFrom restOf endsWith before positive widthLine element arrayLine opening header stored item items brace closing tail trailer logOf cell painted whole picture reading digits joined afterHeader listed
+unfolding after rest _>>=_ give want need one run fork eot isBlank isLoose byte skip fixed gap lineEnd leading token span hexOf hexv hexDigit isMark hexStart hexDigits hexUnit isDigit digitsFrom restOf endsWith before positive widthLine element arrayLine opening header stored item items brace closing tail trailer logOf cell painted whole picture reading digits joined afterHeader limited listedWithin
 masks = refl
 
 -- 2. LISTINGS. A text that writes m, that the limits let through, with cells enough for the picture; and its first n bytes.

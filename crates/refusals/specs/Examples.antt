@@ -20,7 +20,8 @@ use Rattle.image.specs.Rows.{whole}
 use Rattle.image.specs.Reading.{picture, reading}
 use Rattle.print.specs.Decimal.{digits}
 use Rattle.print.specs.Output.{joined}
-use Rattle.listing.specs.Listing.{afterHeader, listed}
+use Rattle.image.specs.Limited.{afterHeader, limited}
+use Rattle.listing.specs.Listing.{listedWithin}
 use Rattle.claims.specs.Masks.{Row, given, wanted}
 
 -- the lines after the width line; all nine cells lent as 7
@@ -61,5 +62,5 @@ table =
     ∷ []
 
 pub rows : map given table ≡ map wanted table
-unfolding after rest _>>=_ give want need one run fork eot isBlank isLoose byte skip fixed gap lineEnd leading token span hexOf hexv hexDigit isMark hexStart hexDigits hexUnit isDigit digitsFrom restOf endsWith before positive widthLine element arrayLine opening header stored item items brace closing tail trailer logOf cell painted whole picture reading digits joined afterHeader listed
+unfolding after rest _>>=_ give want need one run fork eot isBlank isLoose byte skip fixed gap lineEnd leading token span hexOf hexv hexDigit isMark hexStart hexDigits hexUnit isDigit digitsFrom restOf endsWith before positive widthLine element arrayLine opening header stored item items brace closing tail trailer logOf cell painted whole picture reading digits joined afterHeader limited listedWithin
 rows = refl

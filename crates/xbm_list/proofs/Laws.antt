@@ -8,9 +8,10 @@ use lib.Seq.{take-all, take-at, drop-append-seam}
 use Rattle.text.specs.Ascii.{ascii}
 use Rattle.text.specs.Place.{start}
 use Rattle.header.specs.Header.{header}
+use Rattle.image.specs.Limited.{afterHeader, limited}
 use Rattle.print.specs.Output.{Output, output, puts, joined, puts-start}
 use Rattle.print.specs.Decimal.{digits}
-use Rattle.listing.specs.Listing.{Listed, printed, afterHeader, listed, listing, Lists}
+use Rattle.listing.specs.Listing.{Listed, listedOf, printed, listed, listing, Lists}
 use Rattle.listing.specs.Sizes.{listing-short, listed-long, listed-short, listed-beginning}
 use Rattle.xbm_list.specs.Program.{Holds, Prints, ListsInput}
 
@@ -45,7 +46,11 @@ too-long : (input name cells : List ℕ) → 65536 < length input → listing in
 unfolding joined digits
 too-long input name cells h = ap (λ (x : Listed). printed (x .told) (x .ink)) (listed-long input name cells h)
 
-module _ (text : List ℕ) (n : ℕ) (name cells out name′ cells′ : List ℕ) {out′ : List ℕ} {r : ℕ} (k : Lists (take n text) name cells out name′ cells′ out′ r) where
+limit-so : (input name cells : List ℕ) → length name ≡ 256 → listedOf (limited 65536 input name cells) ≡ listedOf (afterHeader 65536 input name cells (header 256 input start))
+unfolding limited
+limit-so input name cells s = ap (λ (m : ℕ). listedOf (afterHeader 65536 input name cells (header m input start))) s
+
+module _ (text : List ℕ) (n : ℕ) (name cells out name′ cells′ : List ℕ) {out′ : List ℕ} {r : ℕ} (k : Lists 65536 65536 (take n text) name cells out name′ cells′ out′ r) where
   short : 133 ≤ length out → length (listing (take n text) name cells) ≤ length out
   short h = omega (arith, h, listing-short (take n text) name cells)
 
@@ -57,7 +62,7 @@ module _ (text : List ℕ) (n : ℕ) (name cells out name′ cells′ : List ℕ
         whole = all;
         others = others _ out out′ r (short h) (k .prints);
         long = λ b. all ∙ too-long input name cells b;
-        short = λ b. listed-short input name cells b ∙ ap (λ (m : ℕ). afterHeader input name cells (header m input start)) s;
+        short = λ b. listed-short input name cells b ∙ limit-so input name cells s;
         named = k .named ∙ ap (λ (x : Listed). x .symbol) same;
         filled = k .filled ∙ ap (λ (x : Listed). x .cells) same;
       }

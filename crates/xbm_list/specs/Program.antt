@@ -6,7 +6,8 @@ use lib.ListN.{length, take, drop}
 use Rattle.text.specs.Ascii.{ascii}
 use Rattle.text.specs.Place.{start}
 use Rattle.header.specs.Header.{header}
-use Rattle.listing.specs.Listing.{afterHeader, listed, listing}
+use Rattle.image.specs.Limited.{afterHeader}
+use Rattle.listing.specs.Listing.{listedOf, listed, listing}
 
 -- the first n bytes of a buffer are the input, or as much of it as the buffer has room for
 abbrev pub Holds : List ℕ → ℕ → List ℕ → Type 0
@@ -17,9 +18,9 @@ pub record Prints (input name cells out name′ cells′ out′ : List ℕ) (r :
   -- the first r bytes are the whole listing, the others as lent
   pub whole : take r out′ ≡ listing input name cells
   pub others : drop r out′ ≡ drop r out
-  -- an input above 65,536 bytes is seen as such; any other is read, with a limit of 256 bytes on the width's symbol
+  -- an input above 65,536 bytes is seen as such; any other is read, with limits of 256 bytes on the width's symbol and 65,536 cells
   pub long : 65536 < length input → take r out′ ≡ ascii "refused 41\n"
-  pub short : length input ≤ 65536 → listed input name cells ≡ afterHeader input name cells (header 256 input start)
+  pub short : length input ≤ 65536 → listed input name cells ≡ listedOf (afterHeader 65536 input name cells (header 256 input start))
   pub named : name′ ≡ listed input name cells .symbol
   pub filled : cells′ ≡ listed input name cells .cells
 

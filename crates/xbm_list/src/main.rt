@@ -31,7 +31,7 @@ fn list_input(
         (now (name .exit)) (now (cells .exit)) (now (out .exit)) r ⌝ }
 {
     let buffer: &[u8] = text;
-    list(&buffer[..n], name, cells, out)
+    list(&buffer[..n], name, cells, out, TEXT_LIMIT, CELL_LIMIT)
 }
 
 fn main() {
