@@ -5,11 +5,11 @@ use crate::buffers::sum;
 use crate::record::ROOM;
 use crate::record::Told;
 use header::Hotspot;
-use header::XbmDecodeError;
+use header::Refusal;
 use header::XbmHeaderData;
+use header::refusal_of;
 use image::ImageRead;
 use image::read_image;
-use lexical::part_number;
 use text::TextLocation;
 
 // A number and no more.
@@ -39,12 +39,10 @@ fn placed(number: u64, place: TextLocation) -> Told {
     told
 }
 
-fn refused(error: XbmDecodeError) -> Told {
-    match error {
-        XbmDecodeError::Parse(part, place) => placed(part_number(part) as u64, place),
-        XbmDecodeError::DecodeInteger(part) => silent(10 + part_number(part) as u64),
-        XbmDecodeError::ZeroWidth => silent(21),
-        XbmDecodeError::ZeroHeight => silent(22),
+fn refused(refusal: Refusal) -> Told {
+    match refusal {
+        Refusal::Placed(number, place) => placed(number as u64, place),
+        Refusal::Unplaced(number) => silent(number as u64),
     }
 }
 
@@ -72,7 +70,7 @@ fn accepted(data: XbmHeaderData) -> Told {
 fn told_by(image: ImageRead) -> Told {
     match image {
         ImageRead::Read(data) => accepted(data),
-        ImageRead::Refused(error) => refused(error),
+        ImageRead::Refused(error) => refused(refusal_of(error)),
         ImageRead::DimensionMismatch => silent(31),
     }
 }

@@ -7,13 +7,11 @@ use lib.ListN.{length, take, length-take}
 use lib.IntN.{ℤ, pos}
 use Rattle.text.specs.declared.TextLocation.{TextLocation}
 use Rattle.text.specs.Place.{start}
-use Rattle.text.specs.Reader.{Result, Told, shown}
-use Rattle.text.specs.Outcome.{Outcome, placeless}
-use Rattle.lexical.specs.declared.XbmPart.{XbmPart}
-use Rattle.lexical.specs.Lexical.{number}
-use Rattle.lexical.proofs.Laws.{number-fits}
+use Rattle.text.specs.Reader.{Result}
+use Rattle.text.specs.Outcome.{Outcome, Ended, shown}
 use Rattle.header.specs.declared.XbmDecodeError.{XbmDecodeError}
-use Rattle.header.specs.declared.XbmDecodeError.the-variants.{Parse, DecodeInteger, ZeroWidth, ZeroHeight}
+use Rattle.header.specs.declared.Refusal.{Refusal}
+use Rattle.header.specs.declared.Refusal.the-variants.{Placed, Unplaced}
 use Rattle.header.specs.declared.Hotspot.{Hotspot}
 use Rattle.header.specs.declared.Hotspot.the-variants.{Absent, At}
 use Rattle.header.specs.declared.XbmHeaderData.{XbmHeaderData}
@@ -21,30 +19,33 @@ use Rattle.header.specs.declared.HeaderRead.{HeaderRead}
 use Rattle.header.specs.declared.HeaderRead.the-variants.{Read as HeadRead, Refused as HeadRefused}
 use Rattle.header.specs.declared.HeaderAnswer.{HeaderAnswer}
 use Rattle.header.specs.Header.{Head, header}
-use Rattle.header.specs.Answer.{toldError, hotOf, toldHeader, nameLength, Headed}
+use Rattle.header.specs.Answer.{refusalOf, toldRefusal, hotOf, toldHeader, nameLength, Headed}
 use Rattle.image.specs.declared.ImageRead.{ImageRead}
 use Rattle.image.specs.declared.ImageRead.the-variants.{Read, Refused, DimensionMismatch}
 use Rattle.image.specs.declared.ImageAnswer.{ImageAnswer}
 use Rattle.image.specs.Reading.{Reading, reading, toldImage, Imaged}
 use Rattle.xbm_c.specs.declared.Summary.{Summary}
-use Rattle.xbm_c.specs.Report.{nowhere, spotOf, refusal, ofHeader, ofImage, headerTold, imageTold, flagOf, coordinates, reportOf, Tells, HeaderCall, ImageCall}
+use Rattle.xbm_c.specs.Report.{nowhere, spotOf, refusal, ofRefusal, ofHeader, ofImage, headerTold, imageTold, flagOf, coordinates, reportOf, Tells, HeaderCall, ImageCall}
 
 -- ---- a refusal
 
-module _ {e : XbmDecodeError} {r : Summary} {m : ℕ} where
-  pub error-parse : {part : XbmPart} {p : TextLocation} {n : ℕ} → e ≡ Parse part p → n ≡ number part → r ≡ refusal n p m → r ≡ ofHeader (toldError e) m
-  error-parse h k q = q ∙ rw (h, k)
+module _ {e : Refusal} {r : Summary} {m : ℕ} where
+  pub told-placed : {n : ℕ} {p : TextLocation} → e ≡ Placed n p → r ≡ refusal n p m → r ≡ ofRefusal e m
+  told-placed h q = q ∙ rw h
 
-  pub error-integer : {part : XbmPart} {p : TextLocation} {n : ℕ} → e ≡ DecodeInteger part → n ≡ number part → p ≡ nowhere → r ≡ refusal (n + 10) p m → r ≡ ofHeader (toldError e) m
-  error-integer h k w q = q ∙ rw (h, k, w)
+  pub told-unplaced : {n : ℕ} {p : TextLocation} → e ≡ Unplaced n → p ≡ nowhere → r ≡ refusal n p m → r ≡ ofRefusal e m
+  told-unplaced h w q = q ∙ rw (h, w)
 
-  pub error-width : {p : TextLocation} → e ≡ ZeroWidth → p ≡ nowhere → r ≡ refusal 21 p m → r ≡ ofHeader (toldError e) m
-  error-width h w q = q ∙ rw (h, w)
+pub ruleset refusal·laws = (told-placed, told-unplaced)
 
-  pub error-height : {p : TextLocation} → e ≡ ZeroHeight → p ≡ nowhere → r ≡ refusal 22 p m → r ≡ ofHeader (toldError e) m
-  error-height h w q = q ∙ rw (h, w)
+-- of what could not be read
+of-header : (f : Refusal) (n : ℕ) → ofRefusal f n ≡ ofHeader (toldRefusal f) n
+of-header (Placed c p) n = refl
+of-header (Unplaced c) n = refl
 
-pub ruleset error·laws = (number-fits, error-parse, error-integer, error-width, error-height)
+of-image : (f : Refusal) (n : ℕ) → ofRefusal f n ≡ ofImage (toldRefusal f) n
+of-image (Placed c p) n = refl
+of-image (Unplaced c) n = refl
 
 -- ---- an answer
 
@@ -60,21 +61,15 @@ module _ (h : HeaderRead) (n : ℕ) where
   pub header-accepted : {d : XbmHeaderData} {p : TextLocation} → h ≡ HeadRead d p → made p d n (d .hotspot) ≡ ofHeader (toldHeader [] h) n
   header-accepted {d} {p} e = rw e (ap (made p d n) (sym (spot-same (d .hotspot))))
 
-  pub header-refused : {x : XbmDecodeError} {r : Summary} → h ≡ HeadRefused x → r ≡ ofHeader (toldError x) n → r ≡ ofHeader (toldHeader [] h) n
-  header-refused e q = rw e q
+  pub header-refused : {x : XbmDecodeError} {f : Refusal} {r : Summary} → h ≡ HeadRefused x → f ≡ refusalOf x → r ≡ ofRefusal f n → r ≡ ofHeader (toldHeader [] h) n
+  header-refused {x} e g q = q ∙ ap (λ (f : Refusal). ofRefusal f n) g ∙ rw e (of-header (refusalOf x) n)
 
 module _ (m : ImageRead) (n : ℕ) where
   pub image-accepted : {d : XbmHeaderData} {p : TextLocation} → m ≡ Read d → p ≡ nowhere → made p d n (d .hotspot) ≡ ofImage (toldImage [] m) n
   image-accepted {d} e w = rw (e, w) (ap (made nowhere d n) (sym (spot-same (d .hotspot))))
 
-  pub image-refused : {x : XbmDecodeError} {r : Summary} → m ≡ Refused x → r ≡ ofHeader (toldError x) n → r ≡ ofImage (toldImage [] m) n
-  image-refused {x} e q = rw e (q ∙ go x)
-    where
-      go : (x : XbmDecodeError) → ofHeader (toldError x) n ≡ ofImage (placeless (toldError x)) n
-      go (Parse part p) = refl
-      go (DecodeInteger part) = refl
-      go ZeroWidth = refl
-      go ZeroHeight = refl
+  pub image-refused : {x : XbmDecodeError} {f : Refusal} {r : Summary} → m ≡ Refused x → f ≡ refusalOf x → r ≡ ofRefusal f n → r ≡ ofImage (toldImage [] m) n
+  image-refused {x} e g q = q ∙ ap (λ (f : Refusal). ofRefusal f n) g ∙ rw e (of-image (refusalOf x) n)
 
   pub image-mismatch : {p : TextLocation} {r : Summary} → m ≡ DimensionMismatch → p ≡ nowhere → r ≡ refusal 31 p n → r ≡ ofImage (toldImage [] m) n
   image-mismatch e w q = q ∙ rw (e, w)
@@ -116,7 +111,7 @@ pub header-call : {text name name′ report : List ℕ} {hotspot : List ℤ} {a 
 unfolding headerTold
 header-call {text} {name} {name′} {report} {hotspot} {a} {s} k e p q =
     record {
-      told = tells (e ∙ header-blind (take (a .name) name′) (a .header) (a .name) ∙ ap (λ (t : Told Head). ofHeader t (a .name)) (k .answer) ∙ ap (ofHeader (shown (header (length name) text start))) (k .size)) p q;
+      told = tells (e ∙ header-blind (take (a .name) name′) (a .header) (a .name) ∙ ap (λ (t : Outcome (Ended Head)). ofHeader t (a .name)) (k .answer) ∙ ap (ofHeader (shown (header (length name) text start))) (k .size)) p q;
       symbol = k .symbol;
     }
 

@@ -7,9 +7,10 @@ use lib.ListN.{length}
 use lib.IntN.{ℤ, pos}
 use Rattle.text.specs.declared.TextLocation.{TextLocation}
 use Rattle.text.specs.Place.{start}
-use Rattle.text.specs.Reader.{Result, Told, accepted, refused, unplaced, shown}
-use Rattle.text.specs.Outcome.{Outcome, accepted as accepted-image, refused as refused-image, unplaced as unplaced-image}
+use Rattle.text.specs.Outcome.{Outcome, accepted, refused, unplaced, Ended, ending-at, shown}
 use Rattle.lexical.specs.Token.{overlay}
+use Rattle.header.specs.declared.Refusal.{Refusal}
+use Rattle.header.specs.declared.Refusal.the-variants.{Placed, Unplaced}
 use Rattle.header.specs.declared.Hotspot.{Hotspot}
 use Rattle.header.specs.declared.Hotspot.the-variants.{Absent, At}
 use Rattle.header.specs.Header.{Head, header}
@@ -33,17 +34,22 @@ acceptance p h n = record { number = 0; place = p; width = h .width; height = h 
 abbrev pub refusal : ℕ → TextLocation → ℕ → Summary
 refusal c p n = record { number = c; place = p; width = 0; height = 0; name = n; hotspot = Absent }
 
+-- its number, and its place if it tells one
+abbrev pub ofRefusal : Refusal → ℕ → Summary
+ofRefusal (Placed c p) n = refusal c p n
+ofRefusal (Unplaced c) n = refusal c nowhere n
+
 -- what is told of a header; an accepted one tells the place after its brace
-abbrev pub ofHeader : Told Head → ℕ → Summary
-ofHeader (accepted h p) n = acceptance p h n
+abbrev pub ofHeader : Outcome (Ended Head) → ℕ → Summary
+ofHeader (accepted (ending-at h p)) n = acceptance p h n
 ofHeader (refused c p) n = refusal c p n
 ofHeader (unplaced c) n = refusal c nowhere n
 
 -- what is told of a picture; an accepted one tells no place
 abbrev pub ofImage : Outcome Head → ℕ → Summary
-ofImage (accepted-image h) n = acceptance nowhere h n
-ofImage (refused-image c p) n = refusal c p n
-ofImage (unplaced-image c) n = refusal c nowhere n
+ofImage (accepted h) n = acceptance nowhere h n
+ofImage (refused c p) n = refusal c p n
+ofImage (unplaced c) n = refusal c nowhere n
 
 -- the two, for a text and the lent buffers
 unfoldable pub headerTold : List ℕ → List ℕ → Summary

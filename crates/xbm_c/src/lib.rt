@@ -2,18 +2,19 @@
 ghost use mathlib.Core.Path.{_≡_};
 ghost use mathlib.Core.List.{[]};
 ghost use Rattle.decoder.specs.Step.{toldNext};
-ghost use Rattle.header.specs.Answer.{toldError, toldHeader};
+ghost use Rattle.header.specs.Answer.{toldHeader};
 ghost use Rattle.image.specs.Reading.{toldImage};
 ghost use Rattle.xbm_c.specs.Next.{reported, nextNumber, nextReport, resultAt, decoderAt, reportAt};
-ghost use Rattle.xbm_c.specs.Report.{nowhere, refusal, ofHeader, ofImage, flagOf, coordinates, reportOf, HeaderCall, ImageCall};
+ghost use Rattle.xbm_c.specs.Report.{nowhere, refusal, ofRefusal, ofHeader, ofImage, flagOf, coordinates, reportOf, HeaderCall, ImageCall};
 use decoder::NextByte;
 use decoder::XbmStreamDecoder;
 use decoder::next_byte;
 use header::HeaderAnswer;
 use header::HeaderRead;
 use header::Hotspot;
-use header::XbmDecodeError;
+use header::Refusal;
 use header::read_xbm_header;
+use header::refusal_of;
 use image::ImageAnswer;
 use image::ImageRead;
 use image::read_image;
@@ -57,14 +58,12 @@ fn refused(number: u32, place: TextLocation, name: usize) -> Summary
 }
 
 // A refusal, and where the parser stood if it tells that.
-fn error_told(e: XbmDecodeError, name: usize) -> Summary
-    ensures { λ r. ⌜ r ≡ ofHeader (toldError e) name ⌝ }
+fn refusal_told(refusal: Refusal, name: usize) -> Summary
+    ensures { λ r. ⌜ r ≡ ofRefusal refusal name ⌝ }
 {
-    match e {
-        XbmDecodeError::Parse(part, place) => refused(part_number(part), place, name),
-        XbmDecodeError::DecodeInteger(part) => refused(part_number(part) + 10, no_place(), name),
-        XbmDecodeError::ZeroWidth => refused(21, no_place(), name),
-        XbmDecodeError::ZeroHeight => refused(22, no_place(), name),
+    match refusal {
+        Refusal::Placed(number, place) => refused(number, place, name),
+        Refusal::Unplaced(number) => refused(number, no_place(), name),
     }
 }
 
@@ -84,7 +83,7 @@ fn header_told(read: HeaderAnswer) -> Summary
                 hotspot,
             }
         }
-        HeaderRead::Refused(e) => error_told(e, read.name),
+        HeaderRead::Refused(e) => refusal_told(refusal_of(e), read.name),
     }
 }
 
@@ -104,7 +103,7 @@ fn image_told(read: ImageAnswer) -> Summary
                 hotspot,
             }
         }
-        ImageRead::Refused(e) => error_told(e, read.name),
+        ImageRead::Refused(e) => refusal_told(refusal_of(e), read.name),
         ImageRead::DimensionMismatch => refused(31, no_place(), read.name),
     }
 }

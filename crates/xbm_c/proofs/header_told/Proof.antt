@@ -1,6 +1,6 @@
 -- `header_told` meets its contract: the sides and hotspot of an accepted header, or the refusal.
-use Rattle.xbm_c.proofs.Laws.{answer·laws}
 use borrow.Author.Needs.{needs}
+use Rattle.xbm_c.proofs.Laws.{answer·laws}
 use Rattle.xbm_c.proofs.header_told.Statement.{statement}
 use Rattle.xbm_c.proofs.header_told.Tie as tie
 
@@ -10,8 +10,11 @@ enum-known-header c = search needs
 enum-known-header-2 : tie.Need-enum-known-header-2
 enum-known-header-2 c = search needs
 
-error-told-requires : tie.Need-error-told-requires
-error-told-requires c κs = search needs
+refusal-of-requires : tie.Need-refusal-of-requires
+refusal-of-requires c κs = search needs
+
+refusal-told-requires : tie.Need-refusal-told-requires
+refusal-told-requires c κs = search needs
 
 returns : tie.Need-returns
 returns c = search (answer·laws, needs)
@@ -22,4 +25,10 @@ returns-2 c = search (answer·laws, needs)
 pub header-told-spec : {M : Type 1} → statement M
 header-told-spec =
     tie.close
-    (tie.spec enum-known-header enum-known-header-2 error-told-requires returns returns-2)
+    (tie.spec
+    enum-known-header
+    enum-known-header-2
+    refusal-of-requires
+    refusal-told-requires
+    returns
+    returns-2)

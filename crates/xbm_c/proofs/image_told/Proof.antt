@@ -1,6 +1,6 @@
--- `image_told` meets its contract: the sides and hotspot of an accepted picture, or the refusal, or 31.
-use Rattle.xbm_c.proofs.Laws.{answer·laws}
+-- `image_told` meets its contract: the sides and hotspot of an accepted picture, the refusal, or rows that are not its own.
 use borrow.Author.Needs.{needs}
+use Rattle.xbm_c.proofs.Laws.{answer·laws}
 use Rattle.xbm_c.proofs.image_told.Statement.{statement}
 use Rattle.xbm_c.proofs.image_told.Tie as tie
 
@@ -13,8 +13,11 @@ no-place-requires c κs = search needs
 enum-known-image-2 : tie.Need-enum-known-image-2
 enum-known-image-2 c = search needs
 
-error-told-requires : tie.Need-error-told-requires
-error-told-requires c κs = search needs
+refusal-of-requires : tie.Need-refusal-of-requires
+refusal-of-requires c κs = search needs
+
+refusal-told-requires : tie.Need-refusal-told-requires
+refusal-told-requires c κs = search needs
 
 enum-told : tie.Need-enum-told
 enum-told c = search needs
@@ -41,7 +44,8 @@ image-told-spec =
     enum-known-image
     no-place-requires
     enum-known-image-2
-    error-told-requires
+    refusal-of-requires
+    refusal-told-requires
     enum-told
     no-place-requires-2
     refused-requires
