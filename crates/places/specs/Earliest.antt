@@ -1,6 +1,6 @@
--- THE CLAIM ON THE EARLIEST PLACE: the bytes before the wrong one can still be saved, and with it no longer. To believe it, read: the grammar (Lang and Grammar),
--- the reading that all contracts cite (Reading and what it names), Terms of `claims` and of `refusals`, Savable (the words used here), and this file.
--- Every proof below is a citation.
+-- THE CLAIM ON THE EARLIEST PLACE: the bytes before the wrong one can still be saved, and with it no longer. To believe
+-- it, read: the grammar (Lang and Grammar), the reading that all contracts cite (Reading and what it names), Terms of
+-- `claims` and of `refusals`, Savable (the words used here), and this file. Every proof below is a citation.
 use mathlib.Core.Path.{_≡_}
 use mathlib.Core.Logic.{_⊎_}
 use Prim.Native.Nat.{ℕ, _*_, _≤_, _<_}
@@ -21,33 +21,46 @@ use Rattle.places.specs.EarliestArray
 use Rattle.places.specs.EarliestData
 use Rattle.places.specs.EarliestEnd
 
--- A text that is refused with number c at p: what can still stand there, of the bytes up to p, a part a number.
+-- A text that is refused with number c at p: what stands in it, and what can still stand there. A part a number.
 pub record Earliest (text name pixels : List ℕ) (c : ℕ) (p : TextLocation) : Type 0 where
-  -- 1: leading lines and a width line with any token; with too small a name buffer for any, what precedes its symbol; or the symbol is refused, and that may come late
+  -- 1: leading lines and a width line with any token; in a name buffer too small for any, what precedes its symbol;
+  -- or it is the symbol that is refused, which may come late
   pub n1 : c ≡ 1
-      → ((6 ≤ length name) × Savable text p (Width (length name))) ⊎ (((length name < 6) × Savable text p (Begun Opening)) ⊎ Stuck (length name) text p)
+      → ((6 ≤ length name) × Savable text p (Width (length name)))
+      ⊎ (((length name < 6) × Savable text p (Begun Opening)) ⊎ Stuck (length name) text p)
   -- 2: a width line stands there, and a height line with any token can
-  pub n2 : c ≡ 2 → (m : Mask) × Begun (Front (length name) (m .name) (Side (m .width))) text × Savable text p (Begun (Second (length name) m Token))
+  pub n2 : c ≡ 2
+      → (m : Mask) × Begun (Front (length name) (m .name) (Side (m .width))) text
+      × Savable text p (Begun (Second (length name) m Token))
   -- 3: the sides do, and a line for `_x_hot` can
-  pub n3 : c ≡ 3 → (m : Mask) × Begun (Sides (length name) m) text × Savable text p (Begun (Third (length name) m Token))
+  pub n3 : c ≡ 3
+      → (m : Mask) × Begun (Sides (length name) m) text × Savable text p (Begun (Third (length name) m Token))
   -- 4: that line does, and one for `_y_hot` can
-  pub n4 : c ≡ 4 → (m : Mask) × (x : ℤ) × Begun (Third (length name) m (Coordinate x)) text × Savable text p (Begun (Fourth (length name) m x Token))
+  pub n4 : c ≡ 4
+      → (m : Mask) × (x : ℤ) × Begun (Third (length name) m (Coordinate x)) text
+      × Savable text p (Begun (Fourth (length name) m x Token))
   -- 5: the sides do and no `#` after them, or the hotspot's lines do; and an array line can
   pub n5 : c ≡ 5
-      → ((m : Mask) × Begun (Sides (length name) m) text × No (Sides (length name) m · Lit "#") text × Savable text p (Begun (Sides (length name) m · Array (m .name))))
+      → ((m : Mask) × Begun (Sides (length name) m) text × No (Sides (length name) m · Lit "#") text
+        × Savable text p (Begun (Sides (length name) m · Array (m .name))))
       ⊎ ((m : Mask) × (x : ℤ) × (y : ℤ) × Begun (Fourth (length name) m x (Coordinate y)) text
         × Savable text p (Begun (Fourth (length name) m x (Coordinate y) · Array (m .name))))
   -- 6: the header does, and all the data bytes that are read can
-  pub n6 : c ≡ 6 → (m : Mask) × (k : ℕ) × Read m pixels k × Begun (Header (length name) m) text
+  pub n6 : c ≡ 6
+      → (m : Mask) × (k : ℕ) × Read m pixels k × Begun (Header (length name) m) text
       × Savable text p (λ t. (l : List ℕ) × (length l ≡ k) × Begun (Header (length name) m · Data l) t)
   -- 7: the header and all data bytes do, and the closing can
-  pub n7 : c ≡ 7 → (m : Mask) × (m .height ≤ rows m pixels) × (length (m .bytes) ≡ W m * m .height) × Begun (Header (length name) m · Data (m .bytes)) text
+  pub n7 : c ≡ 7
+      → (m : Mask) × (m .height ≤ rows m pixels) × (length (m .bytes) ≡ W m * m .height)
+      × Begun (Header (length name) m · Data (m .bytes)) text
       × Savable text p (Begun (Header (length name) m · Data (m .bytes) · Closing))
   -- 8: the closing does, and the text can be one of the format
-  pub n8 : c ≡ 8 → (m : Mask) × (m .height ≤ rows m pixels) × (length (m .bytes) ≡ W m * m .height)
+  pub n8 : c ≡ 8
+      → (m : Mask) × (m .height ≤ rows m pixels) × (length (m .bytes) ≡ W m * m .height)
       × Begun (Header (length name) m · Data (m .bytes) · Closing) text × Savable text p (Format (length name) m)
 
-pub earliest : (text name pixels : List ℕ) (c : ℕ) (p : TextLocation) → reading text name pixels .answer ≡ refused c p → Earliest text name pixels c p
+pub earliest : (text name pixels : List ℕ) (c : ℕ) (p : TextLocation) → reading text name pixels .answer ≡ refused c p
+    → Earliest text name pixels c p
 earliest t name pixels c p q = record {
   n1 = λ e. EarliestWidth.earliest-1 t name pixels p (rw e at q);
   n2 = λ e. EarliestRows.earliest-2 t name pixels p (rw e at q);

@@ -1,28 +1,27 @@
 -- The earliest place of a refusal in the array line: 5.
 use mathlib.Core.Path.{_≡_, refl, sym, ap, _∙_}
 use mathlib.Core.Logic.{_⊎_, inl, inr}
-use Prim.Native.Nat.{ℕ, _≤_}
+use Prim.Native.Nat.{ℕ}
 use native.Mathlib.Omega.{arith}
-use mathlib.Core.Option.{Option, none, some}
+use mathlib.Core.Option.{none, some}
 use mathlib.Core.Bool.{Bool, true, false}
-use mathlib.Core.List.{List, [], _∷_, _++_}
+use mathlib.Core.List.{List, [], _∷_}
 use lib.ListN.{length}
 use lib.Dec.{eqb}
 use borrow.Author.Tests.{ne-eqb}
 use Rattle.text.specs.declared.TextLocation.{TextLocation}
-use Rattle.text.specs.Ascii.{ascii}
 use Rattle.text.specs.Place.{start, after, rest as restAt}
-use Rattle.text.specs.Reader.{Result, ok, stop, bad, then, Reader, _>>=_, _>>_}
-use Rattle.text.specs.Leaf.{give, one, first as firstOf, judge, fork, forkOf, choose}
+use Rattle.text.specs.Reader.{ok, stop, _>>=_, _>>_}
+use Rattle.text.specs.Leaf.{give, one, first as firstOf, fork, forkOf, choose}
 use Rattle.text.specs.Outcome.{refused}
-use Rattle.lexical.specs.Lexical.{is, when, byte, fixed}
-use Rattle.header.specs.Header.{Head, element, arrayLine, rest, ending}
+use Rattle.lexical.specs.Lexical.{when, byte, fixed}
+use Rattle.header.specs.Header.{Head, arrayLine, rest}
 use Rattle.image.specs.Reading.{reading}
 use lib.IntN.{ℤ}
 use Rattle.grammar.specs.Bind.{bind-ok}
 use Rattle.grammar.specs.Headers.{array-fits}
-use Rattle.grammar.specs.Lang.{Lang, Word, Lit, _·_, All}
-use Rattle.grammar.specs.Grammar.{Mask, solid, Coordinate, Define, Array}
+use Rattle.grammar.specs.Lang.{Lang, Lit, _·_, All}
+use Rattle.grammar.specs.Grammar.{Mask, solid, Coordinate, Array}
 use Rattle.grammar.specs.Fits.{Any, At, Next}
 use Rattle.claims.specs.Terms.{Begun}
 use Rattle.claims.specs.Numbers.{give-numbered}

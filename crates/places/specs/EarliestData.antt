@@ -9,7 +9,7 @@ use lib.ListN.{length}
 use lib.Dec.{eqb, ltb}
 use borrow.Author.Tests.{eqb-true, ltb-true, ltb-false, le-ltb}
 use Rattle.text.specs.declared.TextLocation.{TextLocation}
-use Rattle.text.specs.Place.{byteOf, rest, start, past}
+use Rattle.text.specs.Place.{rest, start, past}
 use Rattle.text.specs.Reader.{Result, ok, stop, bad, then, Reader, _>>=_, _>>_}
 use Rattle.text.specs.Leaf.{give}
 use Rattle.text.specs.Outcome.{refused}
@@ -21,12 +21,12 @@ use Rattle.image.specs.Reading.{picture, reading}
 use Rattle.grammar.specs.Lang.{Lang, _·_}
 use Rattle.grammar.specs.Grammar.{Mask, Header, Data, Closing}
 use Rattle.grammar.specs.Bind.{bind-case, bind-ok, bind-stop}
-use Rattle.grammar.specs.Fits.{Follow, Any, At, Fits}
-use Rattle.grammar.specs.Devices.{headOf, made}
+use Rattle.grammar.specs.Fits.{Any, At, Fits}
+use Rattle.grammar.specs.Devices.{made}
 use Rattle.grammar.specs.Headers.{header-exactly}
 use Rattle.grammar.specs.Exact.{data-fits, closing-fits}
 use Rattle.claims.specs.Terms.{Begun, W, rows}
-use Rattle.claims.specs.Numbers.{Numbered, numbers, header-numbered, items-numbered, item-numbered, trailer-numbered, closing-numbered, bind-numbered, give-numbered, placed-number}
+use Rattle.claims.specs.Numbers.{Numbered, numbers, header-numbered, items-numbered, item-numbered, trailer-numbered, bind-numbered, give-numbered, placed-number}
 use Rattle.claims.specs.Mismatch.{zero-test}
 use Rattle.refusals.specs.Stages.{stop-first, stop-second, at-both, at-parts, read-at, begun}
 use Rattle.places.specs.Savable.{Savable, Read}

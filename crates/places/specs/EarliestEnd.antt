@@ -1,30 +1,29 @@
 -- The earliest place of a refusal after the closing: 8. Without the byte that was wrong the text is of the format.
 use mathlib.Core.Path.{_≡_, refl, sym, ap, _∙_}
-use mathlib.Core.Logic.{_⊎_, inl, inr}
-use Prim.Native.Nat.{ℕ, zero, suc, _+_, _*_, _/_, _≤_, _<_, min}
+use Prim.Native.Nat.{ℕ, _*_, _/_, _≤_}
 use native.Mathlib.Omega.{arith}
 use mathlib.Core.Bool.{Bool, true, false}
-use mathlib.Core.List.{List, [], _∷_, _++_}
-use lib.ListN.{length, take, drop}
+use mathlib.Core.List.{List, [], _∷_}
+use lib.ListN.{length, take}
 use lib.Seq.{length-take-le}
-use lib.Dec.{eqb, ltb}
+use lib.Dec.{eqb}
 use borrow.Author.Tests.{eqb-true, le-ltb}
 use Rattle.text.specs.declared.TextLocation.{TextLocation}
-use Rattle.text.specs.Place.{byteOf, rest, start, past}
+use Rattle.text.specs.Place.{byteOf, rest, start}
 use Rattle.text.specs.Rest.{Reach, walk-ahead, reach-inside, rest-room}
-use Rattle.text.specs.Reader.{Result, ok, stop, bad, then, Reader, _>>=_, _>>_, Same, same-take}
+use Rattle.text.specs.Reader.{ok, stop, _>>=_, _>>_, Same, same-take}
 use Rattle.text.specs.Leaf.{give}
 use Rattle.text.specs.Outcome.{refused}
 use Rattle.header.specs.Header.{Head, header, header-local}
-use Rattle.decoder.specs.Data.{item, items, closing, tail, trailer, items-local, closing-local, tail-local}
-use Rattle.decoder.specs.Step.{rowBytes, bytesOf}
+use Rattle.decoder.specs.Data.{items, closing, tail, trailer, items-local, closing-local, tail-local}
+use Rattle.decoder.specs.Step.{bytesOf}
 use Rattle.image.specs.Rows.{count, mismatch, ending}
 use Rattle.image.specs.Reading.{reading}
 use Rattle.grammar.specs.Lang.{_·_}
 use Rattle.grammar.specs.Grammar.{Mask, Header, Data, Closing, Format}
-use Rattle.grammar.specs.Bind.{bind-case, bind-ok}
-use Rattle.grammar.specs.Fits.{Follow, Any, End, Fits}
-use Rattle.grammar.specs.Devices.{headOf, made}
+use Rattle.grammar.specs.Bind.{bind-ok}
+use Rattle.grammar.specs.Fits.{Any, End}
+use Rattle.grammar.specs.Devices.{made}
 use Rattle.grammar.specs.Headers.{header-exactly}
 use Rattle.grammar.specs.Exact.{data-fits, closing-fits, parts}
 use Rattle.claims.specs.Terms.{Begun, W, rows}

@@ -1,18 +1,18 @@
 -- What the readers say of saving a text, in the words of the claim: from the text's start, and after what stands before a line.
 use mathlib.Core.Path.{_≡_, refl, sym, ap, _∙_}
-use mathlib.Core.Logic.{_↔_, _⊎_, inl, inr}
-use Prim.Native.Nat.{ℕ, zero, suc, _+_, _*_, _≤_, _<_}
+use mathlib.Core.Logic.{_↔_}
+use Prim.Native.Nat.{ℕ, zero, suc, _+_, _≤_}
 use native.Mathlib.Omega.{arith}
 use native.Mathlib.Nat.{le-of-suc-le-suc, not-suc-le-zero}
 use mathlib.Core.List.{List, [], _∷_, _++_}
-use lib.ListN.{length, take, drop, getElem?, length-append}
+use lib.ListN.{length, take, drop, length-append}
 use lib.Seq.{take-all}
 use Rattle.text.specs.declared.TextLocation.{TextLocation}
-use Rattle.text.specs.Place.{byteOf, rest, start, past}
-use Rattle.text.specs.Rest.{Reach, reach-inside}
+use Rattle.text.specs.Place.{byteOf, start}
+use Rattle.text.specs.Rest.{reach-inside}
 use Rattle.text.specs.Reader.{Result, ok, stop, bad, Reader, _>>=_, Same, Local}
 use Rattle.text.specs.Leaf.{give}
-use Rattle.text.specs.Outcome.{Outcome, accepted, refused, unplaced, outcome}
+use Rattle.text.specs.Outcome.{refused, outcome}
 use Rattle.header.specs.Header.{Head, header}
 use Rattle.image.specs.Rows.{whole}
 use Rattle.image.specs.Reading.{picture, reading}
@@ -25,8 +25,8 @@ use Rattle.claims.specs.Numbers.{Numbered, whole-numbered, give-numbered, bind-
 use Rattle.refusals.specs.Terms.{Token}
 use Rattle.refusals.specs.HeaderRows.{begun-in, begun-out}
 use Rattle.refusals.specs.Stages.{stop-first, stop-second, at-both, at-parts, one-end, read-at, begun}
-use Rattle.places.specs.Savable.{Can, Lost, TooLong, Savable, taken, ended, peeked}
-use Rattle.places.specs.Saving.{Good, good-on, front-same, Way, Left, wrong, finished, looked, Saved, Open, fits-keep, walk-word}
+use Rattle.places.specs.Savable.{TooLong, Savable, taken, ended, peeked}
+use Rattle.places.specs.Saving.{Good, good-on, front-same, Left, wrong, finished, looked, Saved, Open, fits-keep, walk-word}
 
 -- ---- the same first bytes, as a text that begins with them
 

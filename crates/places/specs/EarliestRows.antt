@@ -8,17 +8,17 @@ use lib.IntN.{ℤ}
 use Rattle.text.specs.declared.TextLocation.{TextLocation}
 use Rattle.text.specs.Ascii.{ascii}
 use Rattle.text.specs.Place.{start}
-use Rattle.text.specs.Reader.{ok, stop, Reader, _>>=_}
+use Rattle.text.specs.Reader.{ok, stop, _>>=_}
 use Rattle.text.specs.Outcome.{refused}
 use Rattle.image.specs.Reading.{reading}
-use Rattle.grammar.specs.Lang.{Word, _·_, All}
+use Rattle.grammar.specs.Lang.{Word, All}
 use Rattle.grammar.specs.Grammar.{Mask, solid, Side, Coordinate, Define}
 use Rattle.grammar.specs.Bind.{bind-ok}
 use Rattle.claims.specs.Terms.{Begun}
 use Rattle.refusals.specs.Terms.{Token, Front, Second, Sides, Third, Fourth}
 use Rattle.refusals.specs.Lines.{known-fits}
 use Rattle.refusals.specs.HeaderRows.{first, first-fits, first-numbered, front-name, high, high-numbered, heights, header-next, sketch}
-use Rattle.refusals.specs.HotspotRows.{Three, Both, second, second-fits, second-numbered, both-name, further, header-second, hot, hot-x, hot-is, hot-y, hot-stop, hashed, left, left-numbered, Four, third, third-fits, third-hot, third-numbered, Crossed, crossed-name, right, right-numbered, maskOf}
+use Rattle.refusals.specs.HotspotRows.{Three, Both, second, second-fits, second-numbered, both-name, further, header-second, hot, hot-x, hot-is, hot-y, hot-stop, hashed, left, left-numbered, third, third-fits, third-hot, third-numbered, Crossed, crossed-name, right, right-numbered, maskOf}
 use Rattle.refusals.specs.Stages.{stop-first, stop-second, read-at, begun}
 use Rattle.places.specs.Savable.{Savable}
 use Rattle.places.specs.SavingParts.{bind-any, known-open}

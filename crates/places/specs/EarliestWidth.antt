@@ -1,19 +1,18 @@
 -- The earliest place of a refusal in the leading lines and the width line: 1. What is refused in the width's symbol may come too late, and is told apart.
 use mathlib.Core.Path.{_≡_, refl, sym, ap, _∙_}
 use mathlib.Core.Logic.{_↔_, _⊎_, inl, inr}
-use Prim.Native.Nat.{ℕ, zero, suc, _+_, _≤_, _<_}
+use Prim.Native.Nat.{ℕ, suc, _+_, _≤_, _<_}
 use native.Mathlib.Omega.{arith}
 use native.Mathlib.Decide.{decLt}
 use mathlib.Core.Option.{Option, none, some}
-use mathlib.Core.Bool.{Bool, true, false, false≢true}
+use mathlib.Core.Bool.{Bool, true, false≢true}
 use mathlib.Core.List.{List, [], _∷_, _++_, append-nil, append-assoc}
 use lib.ListN.{length, take, length-append}
 use Rattle.text.specs.declared.TextLocation.{TextLocation}
 use Rattle.text.specs.Ascii.{ascii}
 use Rattle.text.specs.Place.{byteOf, rest, start, past}
-use Rattle.text.specs.Reader.{Result, ok, stop, bad, then, Reader, _>>=_, _>>_, Same, Local}
-use Rattle.text.specs.Leaf.{give, want}
-use Rattle.text.specs.Leaf.{run}
+use Rattle.text.specs.Reader.{Result, ok, stop, bad, then, Reader, _>>=_, _>>_, Local}
+use Rattle.text.specs.Leaf.{give, want, run}
 use Rattle.text.specs.Outcome.{refused}
 use Rattle.lexical.specs.Lexical.{isBlank, isLoose, byte, skip, fixed, gap, leading, locals}
 use Rattle.lexical.specs.Token.{token}
@@ -24,7 +23,7 @@ use Rattle.grammar.specs.Grammar.{blank, solid, Gap, Skipped, Define, Symbol}
 use Rattle.grammar.specs.Tests.{want-inv, before→ends, ends→before}
 use Rattle.grammar.specs.Lines.{all-left, symbol-begins}
 use Rattle.grammar.specs.Exact.{start-rest}
-use Rattle.grammar.specs.Bind.{bind-case, bind-ok, past-byte, past-append, move}
+use Rattle.grammar.specs.Bind.{bind-case, bind-ok, past-byte, move}
 use Rattle.grammar.specs.Fits.{Follow, Any, Off, Next, At, Fits, Begins, fit-run}
 use Rattle.grammar.specs.Pieces.{begin, begins-all, solid-blank, gap-solid, class-fits, leading-fits, token-fits, fit-fixed, blank-is}
 use Rattle.claims.specs.Terms.{Begun, Opening}
@@ -44,7 +43,7 @@ use Rattle.places.specs.EarliestLift.{good-start, savable-same, at-start
 -- ---- the width's symbol
 
 -- a token that ends in `_width`: what precedes that
-unfoldable named : ℕ → Reader (List ℕ)
+unfoldable pub named : ℕ → Reader (List ℕ)
 named limit = token isLoose 1 limit >>= λ s. want 1 (before endWidth s)
 
 named-fits : (limit : ℕ) (name : List ℕ) → Fits (named limit) name (Unit {0}) (Symbol limit name) (Off solid)
@@ -281,7 +280,7 @@ module _ (limit : ℕ) (text : List ℕ) (p : TextLocation) (stopped : front lim
   none-wanted none e z = (refl, cc)
   none-wanted (some a) e z = let n : _≡_ {A = ℕ} 0 1 = cc in absurd (omega arith)
 
-  stuck : (m : TextLocation) → opening text start ≡ ok tt m → named limit text m ≡ stop 1 p → Stuck limit text p
+  pub stuck : (m : TextLocation) → opening text start ≡ ok tt m → named limit text m ≡ stop 1 p → Stuck limit text p
   unfolding named _>>=_ Word
   stuck m i j = let (x, (u, r, d, o, f, y)) = opening-fits .to text start m i in go u r d o f y (token isLoose 1 limit text m) refl j
     where

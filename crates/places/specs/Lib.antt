@@ -7,9 +7,10 @@ pub mod SavingLeaves
 pub mod SavingRuns
 pub mod SavingParts
 pub mod EarliestLift
+pub mod EarliestWidth
 pub mod EarliestRows
 pub mod EarliestArray
 pub mod EarliestData
 pub mod EarliestEnd
-pub mod EarliestWidth
 pub mod Earliest
+pub mod EarliestExamples

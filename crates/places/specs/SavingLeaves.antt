@@ -1,26 +1,24 @@
 -- The leaves and the lexical rules can be saved.
 use mathlib.Core.Path.{_≡_, refl, sym, ap, _∙_}
-use mathlib.Core.Logic.{_⊎_, inl, inr}
-use Prim.Native.Nat.{ℕ, zero, suc, _+_, _≤_, _<_}
+use Prim.Native.Nat.{ℕ, suc, _≤_, _<_}
 use native.Mathlib.Omega.{arith}
 use mathlib.Core.Option.{Option, none, some}
 use mathlib.Core.Bool.{Bool, true, false}
-use mathlib.Core.List.{List, [], _∷_, _++_}
-use lib.ListN.{length, take, drop}
-use lib.Dec.{eqb, leb, ltb}
+use mathlib.Core.List.{List, [], _∷_}
+use lib.Dec.{eqb}
 use native.Mathlib.Decide.{decLt}
-use borrow.Author.Tests.{leb-true, eq-eqb, eqb-true}
+use borrow.Author.Tests.{eq-eqb, eqb-true}
 use Rattle.text.specs.declared.TextLocation.{TextLocation}
-use Rattle.text.specs.Place.{pick, byteOf, rest, after, past}
-use Rattle.text.specs.Rest.{here, rest-agree}
-use Rattle.text.specs.Reader.{Result, ok, stop, bad, endOf, then, Reader, _>>=_, _>>_, Same, Local, Firm, Grows, Settled, bind-local}
-use Rattle.text.specs.Leaf.{give, one, first, judge, eot, endIf, fork, forkOf, choose, Alike, nils, heads, alike, give-local, one-local, one-firm, one-grows, eot-local, fork-local, fork-firm, fork-grows}
-use Rattle.lexical.specs.Lexical.{is, when, byte, skip, fixed, gap, lineEnd, leading, isBlank, isLoose, skip-local, locals}
+use Rattle.text.specs.Place.{byteOf, rest, after}
+use Rattle.text.specs.Rest.{here}
+use Rattle.text.specs.Reader.{ok, stop, Reader, _>>_, Same, Firm, Grows, Settled}
+use Rattle.text.specs.Leaf.{give, one, first, judge, eot, endIf, fork, forkOf, choose, Alike, heads, give-local, one-local, one-grows, eot-local, fork-local, fork-firm, fork-grows}
+use Rattle.lexical.specs.Lexical.{is, byte, skip, fixed, gap, lineEnd, isBlank, skip-local}
 use Rattle.grammar.specs.Lang.{Lang, Word, Many, All}
-use Rattle.grammar.specs.Grammar.{blank, space, solid}
-use Rattle.grammar.specs.Fits.{Follow, Any, End, Off, Next, Fits}
-use Rattle.grammar.specs.Pieces.{one-fits, skip-fits, blanks-fits, loose-fits, end-fits, blank-is, solid-blank}
-use Rattle.claims.specs.Numbers.{Numbered, skip-numbered, placed-number}
+use Rattle.grammar.specs.Grammar.{solid}
+use Rattle.grammar.specs.Fits.{Follow, Any, End, Off, Next}
+use Rattle.grammar.specs.Pieces.{one-fits, skip-fits, end-fits, blank-is, solid-blank}
+use Rattle.claims.specs.Numbers.{skip-numbered, placed-number}
 use Rattle.places.specs.Saving.{Good, Way, Left, wrong, finished, looked, Saved, Open, fits-keep, word-way, bind-open, same-trans, same-next, at-end}
 
 pub no-growth : {A : Type 0} {p : Reader A} → Grows p → (t : List ℕ) (i : TextLocation) (a : A) → p t i ≡ ok a i → ⊥

@@ -1,30 +1,24 @@
 -- The format's parts can be saved: define lines with any token, the array line, data bytes, the closing, what follows it.
-use mathlib.Core.Path.{_≡_, refl, sym, ap, _∙_}
-use mathlib.Core.Logic.{_⊎_, inl, inr}
-use Prim.Native.Nat.{ℕ, zero, suc, _+_, _*_, _≤_, _<_}
-use native.Mathlib.Omega.{arith}
-use mathlib.Core.Option.{Option, none, some}
+use mathlib.Core.Path.{_≡_, refl}
+use Prim.Native.Nat.{ℕ, zero, suc}
 use mathlib.Core.Bool.{Bool, true, false}
-use mathlib.Core.List.{List, [], _∷_, _++_}
-use lib.ListN.{length, take, drop}
+use mathlib.Core.List.{List, [], _∷_}
 use Rattle.text.specs.declared.TextLocation.{TextLocation}
 use Rattle.text.specs.Ascii.{ascii}
-use Rattle.text.specs.Place.{byteOf, rest, start, past}
-use Rattle.text.specs.Reader.{Result, ok, stop, bad, Reader, _>>=_, _>>_, Same, Local, Firm, Grows}
-use Rattle.text.specs.Leaf.{give, want, fork, eot}
-use Rattle.lexical.specs.Lexical.{is, byte, skip, fixed, gap, lineEnd, leading, isBlank, isLoose, isBlank, locals, milds, firms}
-use Rattle.lexical.specs.Token.{token}
+use Rattle.text.specs.Place.{byteOf}
+use Rattle.text.specs.Reader.{Reader, _>>_}
+use Rattle.text.specs.Leaf.{fork}
+use Rattle.lexical.specs.Lexical.{is, fixed, gap, isBlank, isLoose, isBlank, firms}
 use Rattle.lexical.specs.Hex.{hexv, hexOf, hexDigit, hexStart, hexDigits, hexUnit, isMark}
-use Rattle.header.specs.Header.{hashDefine, element, arrayLine, line-laws}
-use Rattle.decoder.specs.Data.{item, items, brace, closing, tail, trailer}
-use Rattle.grammar.specs.Lang.{Lang, Word, _·_, All}
+use Rattle.header.specs.Header.{element, arrayLine, line-laws}
+use Rattle.decoder.specs.Data.{item, items, brace, closing, tail}
+use Rattle.grammar.specs.Lang.{All}
 use Rattle.grammar.specs.Grammar.{solid}
 use Rattle.grammar.specs.Fits.{Follow, Any, End, Off, Next}
-use Rattle.grammar.specs.Pieces.{loose-is, blank-is}
 use Rattle.refusals.specs.Lines.{raw, known}
 use Rattle.places.specs.Saving.{Way, Open, bind-open}
-use Rattle.places.specs.SavingLeaves.{next-off, give-open, one-open, byte-open, skip-open, fixed-any, fixed-open, gap-open, lineEnd-open, name-open, eot-open, fork-open}
-use Rattle.places.specs.SavingRuns.{token-open, leading-open}
+use Rattle.places.specs.SavingLeaves.{next-off, give-open, one-open, byte-open, skip-open, fixed-open, gap-open, lineEnd-open, name-open, eot-open, fork-open}
+use Rattle.places.specs.SavingRuns.{token-open}
 
 -- how it begins does not matter
 pub bind-any : {A : Type 0} {p : Reader A} {F G : Follow} → Open p F G → Open p F Any

@@ -1,30 +1,29 @@
 -- A token and the leading lines can be saved.
 use mathlib.Core.Path.{_≡_, refl, sym, ap, _∙_}
-use mathlib.Core.Logic.{_⊎_, inl, inr}
-use Prim.Native.Nat.{ℕ, zero, suc, _+_, _≤_, _<_}
+use Prim.Native.Nat.{ℕ, zero, suc, _+_, _≤_}
 use native.Mathlib.Omega.{arith}
 use native.Mathlib.Nat.{le-of-suc-le-suc, not-suc-le-zero}
-use mathlib.Core.Option.{Option, none, some}
+use mathlib.Core.Option.{none, some}
 use mathlib.Core.Bool.{Bool, true, false, not}
 use mathlib.Core.List.{List, [], _∷_, _++_, append-assoc, append-nil}
-use lib.ListN.{length, take, drop, getElem?, length-append, take-append-drop}
+use lib.ListN.{length, take, drop, length-append, take-append-drop}
 use lib.Seq.{length-take-le}
-use lib.Dec.{eqb, leb, ltb}
-use borrow.Author.Tests.{le-leb, leb-true, ltb-true, ltb-false}
+use lib.Dec.{eqb, ltb}
+use borrow.Author.Tests.{le-leb, ltb-true, ltb-false}
 use Rattle.text.specs.declared.TextLocation.{TextLocation}
 use Rattle.text.specs.Place.{pick, byteOf, rest, after, past}
-use Rattle.text.specs.Rest.{Walk, Reach, reach-inside, rest-room, after-rest, walk-ahead}
-use Rattle.text.specs.Reader.{Result, ok, stop, bad, endOf, Reader, Same, Placed, same-take, cut-end}
+use Rattle.text.specs.Rest.{Reach, reach-inside, rest-room}
+use Rattle.text.specs.Reader.{Result, ok, stop, bad, endOf, Same, Placed, same-take, cut-end}
 use Rattle.text.specs.Leaf.{run, scan, moved, go-on, stay, halt}
 use Rattle.lexical.specs.Lexical.{isLoose, lead, leading, leading-local}
 use Rattle.lexical.specs.Token.{upTo, token, token-local, token-mild}
-use Rattle.grammar.specs.Lang.{Lang, Word, All, Star, stop as none-more}
+use Rattle.grammar.specs.Lang.{Word, All, Star, stop as none-more}
 use Rattle.grammar.specs.Grammar.{solid, Skipped}
-use Rattle.grammar.specs.Bind.{past-byte, past-append, move}
-use Rattle.grammar.specs.Fits.{Follow, Any, Off, Next, Fits}
+use Rattle.grammar.specs.Bind.{past-byte, move}
+use Rattle.grammar.specs.Fits.{Follow, Any, Off, Next}
 use Rattle.grammar.specs.Pieces.{token-fits, leading-fits, loose-is}
 use Rattle.places.specs.Savable.{TooLong}
-use Rattle.places.specs.Saving.{Good, good-on, good-rest, at-end, front-length, Way, Left, finished, looked, Saved, Open, fits-keep, word-way, keep-rest, walk-word}
+use Rattle.places.specs.Saving.{Good, good-on, good-rest, at-end, front-length, Way, finished, looked, Saved, Open, fits-keep, word-way, keep-rest, walk-word}
 
 -- ---- a token: refused before one byte too many, and the bytes before that are a token
 
