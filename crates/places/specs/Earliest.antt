@@ -42,9 +42,9 @@ pub record Earliest (text name pixels : List ℕ) (c : ℕ) (p : TextLocation) :
   -- 5: the sides do and no `#` after them, or the hotspot's lines do; and an array line can
   pub n5 : c ≡ 5
       → ((m : Mask) × Begun (Sides (length name) m) text × No (Sides (length name) m · Lit "#") text
-        × Savable text p (Begun (Sides (length name) m · Array (m .name))))
+      × Savable text p (Begun (Sides (length name) m · Array (m .name))))
       ⊎ ((m : Mask) × (x : ℤ) × (y : ℤ) × Begun (Fourth (length name) m x (Coordinate y)) text
-        × Savable text p (Begun (Fourth (length name) m x (Coordinate y) · Array (m .name))))
+      × Savable text p (Begun (Fourth (length name) m x (Coordinate y) · Array (m .name))))
   -- 6: the header does, and all the data bytes that are read can
   pub n6 : c ≡ 6
       → (m : Mask) × (k : ℕ) × Read m pixels k × Begun (Header (length name) m) text

@@ -171,12 +171,16 @@ module _ (text name pixels : List ℕ) (p : TextLocation) where
       let (w, z) = from-closing h (eqb (length pixels / h .width) (h .height)) (few h) (eqb (many h) 0) refl refl l n (sym (bind-ok (items (many h) true) (tests h) text m l n v) ∙ x) in
       let (k, r) = enough h w in
       let (j, d) = data-fits (many h) l .to text m n v in
-      let s = at-line (both lim many) (λ a. closing) (λ a b. give a) (Both lim many) (λ a. Unit {0}) (λ b. Unit {0}) (λ a b. Closing) (both-fits lim many) (λ a w k. tt) (λ a s b. closing-fits) (λ a s. bind-any closing-open) text 7 p (h, l) n (both-ok lim many text start h m l n u v) z in
-      (made h l, k, j ∙ r, begun (Header lim (made h l) · Data l) text .0 (n, at-both (Header lim (made h l)) (Data l) text start m n (header-exactly lim (made h l) text start m .0 u) d),
+      let s = at-line (both lim many) (λ a. closing) (λ a b. give a) (Both lim many) (λ a. Unit {0}) (λ b. Unit {0}) (λ a b. Closing) (both-fits lim many) (λ a w k. tt) (λ a s b. closing-fits) (λ a s. bind-any closing-open) text 7 p (h, l) n (both-ok lim many text start h m l n u v) z in (
+        made h l,
+        k,
+        j ∙ r,
+        begun (Header lim (made h l) · Data l) text .0 (n, at-both (Header lim (made h l)) (Data l) text start m n (header-exactly lim (made h l) text start m .0 u) d),
         savable-same text p (λ y. (
           (λ (b, o, c). begun-as (Both lim many (h, l) · Closing) (Header lim (made h l) · Data l · Closing) y (both-closing lim many h l j) .0 c),
           λ c. (tt, tt, begun-as (Both lim many (h, l) · Closing) (Header lim (made h l) · Data l · Closing) y (both-closing lim many h l j) .1 c),
-        )) s)
+        )) s,
+      )
 
   -- where k data bytes are not read, k can still stand there
   still : (k : ℕ) (h : Head) (m : TextLocation) → header lim text start ≡ ok h m → items k true text m ≡ stop 6 p → Savable text p (λ t. (l : List ℕ) × (length l ≡ k) × Begun (Header lim (made h []) · Data l) t)

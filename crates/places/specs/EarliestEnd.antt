@@ -131,8 +131,11 @@ module _ (text name pixels : List ℕ) (p : TextLocation) where
 
     stood : Begun (Header lim (made h l) · Data l · Closing) text
     stood =
-        begun (Header lim (made h l) · Data l · Closing) text .0 (o, at-both (Header lim (made h l)) (Data l · Closing) text start m o (header-exactly lim (made h l) text start m .0 u)
-        (at-both (Data l) Closing text m n o (data-fits (bytesOf (h .width) (h .height)) l .to text m n v .1) (closing-fits .to text n o x .1)))
+        begun (Header lim (made h l) · Data l · Closing) text .0 (
+          o,
+          at-both (Header lim (made h l)) (Data l · Closing) text start m o (header-exactly lim (made h l) text start m .0 u)
+              (at-both (Data l) Closing text m n o (data-fits (bytesOf (h .width) (h .height)) l .to text m n v .1) (closing-fits .to text n o x .1)),
+        )
 
   -- 8: without the byte that was wrong the text is of the format
   pub earliest-8 : reading text name pixels .answer ≡ refused 8 p

@@ -38,10 +38,33 @@ name = replicate 256 0
 -- a width line with this token and these blanks
 sound : (w b : List ℕ) → Token w → All blank b → Width 256 (ascii "#define d_width " ++ (w ++ (b ++ ascii "\n")))
 unfolding _·_ Define Symbol Word Gap Some Many
-sound w b x y =
-    (ascii "d", (ascii "#define d_width " ++ (w ++ (b ++ ascii "\n")), [], sym (append-nil _),
-     ([], ascii "#define d_width " ++ (w ++ (b ++ ascii "\n")), refl, none-more, (ascii "#define", ascii " d_width " ++ (w ++ (b ++ ascii "\n")), refl, refl, (ascii " ", ascii "d_width " ++ (w ++ (b ++ ascii "\n")), refl, ((refl, tt), omega arith),
-     (ascii "d_width", ascii " " ++ (w ++ (b ++ ascii "\n")), refl, (refl, (refl, tt), omega arith), (ascii " ", w ++ (b ++ ascii "\n"), refl, ((refl, tt), omega arith), (w, b ++ ascii "\n", refl, x, (b, ascii "\n", refl, y, refl)))))))))
+sound w b x y = (
+  ascii "d",
+  (
+    ascii "#define d_width " ++ (w ++ (b ++ ascii "\n")),
+    [],
+    sym (append-nil _),
+    (
+      [],
+      ascii "#define d_width " ++ (w ++ (b ++ ascii "\n")),
+      refl,
+      none-more,
+      (
+        ascii "#define",
+        ascii " d_width " ++ (w ++ (b ++ ascii "\n")),
+        refl,
+        refl,
+        (
+          ascii " ",
+          ascii "d_width " ++ (w ++ (b ++ ascii "\n")),
+          refl,
+          ((refl, tt), omega arith),
+          (ascii "d_width", ascii " " ++ (w ++ (b ++ ascii "\n")), refl, (refl, (refl, tt), omega arith), (ascii " ", w ++ (b ++ ascii "\n"), refl, ((refl, tt), omega arith), (w, b ++ ascii "\n", refl, x, (b, ascii "\n", refl, y, refl)))),
+        ),
+      ),
+    ),
+  ),
+)
 
 -- refused with 1, whatever follows: no continuation has a width line
 gone-1 : (t : List ℕ) (p : TextLocation) → ((v : List ℕ) → reading (t ++ v) name [] .answer ≡ refused 1 p) → Lost (Width 256) t

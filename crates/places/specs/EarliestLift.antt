@@ -51,7 +51,7 @@ savable {A} {p} L t i c e n loc q w l (finished z k) x s h g =
     ended k (drop n x, rw (ap (λ (r : List ℕ). r ++ drop n x) (sym y) ∙ sym (same-split n t x (omega arith) s)) h)
 savable {A} {p} L t i c e n loc q w l (looked z k) x s h g =
     peeked k (drop n x, rw (← z, ← same-split n t x (omega arith) s) h) (λ v y. (let o : Same t (take (suc (byteOf e)) t ++ v) (suc (byteOf e)) = front-same (suc (byteOf e)) t v (long k) in
-      g (take (suc (byteOf e)) t ++ v) (λ j b. o j (omega arith)) (loc .near t (take (suc (byteOf e)) t ++ v) i (rw q o) ∙ q) y))
+    g (take (suc (byteOf e)) t ++ v) (λ j b. o j (omega arith)) (loc .near t (take (suc (byteOf e)) t ++ v) i (rw q o) ∙ q) y))
   where
     long : TooLong t (byteOf e) → suc (byteOf e) ≤ length t
     long (u, a, b, r, f, m, y, o) = omega (arith, ap length f, length-append u (a ++ (b ∷ r)), length-append a (b ∷ r), length-append u a)

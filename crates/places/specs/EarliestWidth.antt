@@ -193,9 +193,12 @@ module _ (limit : ℕ) (u : List ℕ) (o : Opening u) where
   put w z s k = (z ++ (32 ∷ 10 ∷ []), (s, there o))
     where
       there : Opening u → Begun (Front limit s Token) ((u ++ w) ++ (z ++ (32 ∷ 10 ∷ [])))
-      there (a, b, q, star, (d, g, p, l, h)) =
-          (a ++ (d ++ (g ++ ((w ++ z) ++ (32 ∷ 10 ∷ [])))), [], rw (q, p) (simp (append-assoc, append-nil)),
-           (a, d ++ (g ++ ((w ++ z) ++ (32 ∷ 10 ∷ []))), refl, star, (d, g ++ ((w ++ z) ++ (32 ∷ 10 ∷ [])), refl, l, (g, (w ++ z) ++ (32 ∷ 10 ∷ []), refl, h, (w ++ z, 32 ∷ 10 ∷ [], refl, k, (32 ∷ [], 10 ∷ [], refl, ((refl, tt), omega arith), ([], 10 ∷ [], refl, (tt, omega arith), ([], 10 ∷ [], refl, tt, refl))))))))
+      there (a, b, q, star, (d, g, p, l, h)) = (
+        a ++ (d ++ (g ++ ((w ++ z) ++ (32 ∷ 10 ∷ [])))),
+        [],
+        rw (q, p) (simp (append-assoc, append-nil)),
+        (a, d ++ (g ++ ((w ++ z) ++ (32 ∷ 10 ∷ []))), refl, star, (d, g ++ ((w ++ z) ++ (32 ∷ 10 ∷ [])), refl, l, (g, (w ++ z) ++ (32 ∷ 10 ∷ []), refl, h, (w ++ z, 32 ∷ 10 ∷ [], refl, k, (32 ∷ [], 10 ∷ [], refl, ((refl, tt), omega arith), ([], 10 ∷ [], refl, (tt, omega arith), ([], 10 ∷ [], refl, tt, refl))))))),
+      )
 
   got : (w : List ℕ) → All solid w → Can (Width limit) (u ++ w) → (z : List ℕ) × (s : List ℕ) × Symbol limit s (w ++ z)
   unfolding _·_ Define

@@ -164,15 +164,19 @@ leading-open = record {
         let o : rest t e ≡ [] = ap (rest t) z ∙ move l [] t i (sym (append-nil l)) in
         let w : Reach t i e = rw z (rw (append-nil l) at (walk-word l [] i)) in
         let m : byteOf (past i (l ++ (10 ∷ []))) ≡ byteOf e + 1 = past-byte i (l ++ (10 ∷ [])) ∙ omega (arith, length-append l (10 ∷ [])) in
-        let r : rest (t ++ (10 ∷ [])) i ≡ l ++ (10 ∷ []) = more-rest t i (10 ∷ []) g in
-        (byteOf e, omega arith, finished refl (at-end t e (good-on g w) o), record {
-          text = t ++ (10 ∷ []);
-          value = tt;
-          end = past i (l ++ (10 ∷ []));
-          same = more-same t (10 ∷ []) (byteOf e) f;
-          far = omega arith;
-          reach = rw r (rw (append-nil (l ++ (10 ∷ []))) at (walk-word (l ++ (10 ∷ [])) [] i));
-          inside = omega (arith, length-append t (10 ∷ []));
-          reads = λ u s h. ap (λ (x : List ℕ). scan 1 lead (λ s. none) true x i) (keep-rest (l ++ (10 ∷ [])) (t ++ (10 ∷ [])) u [] i (r ∙ sym (append-nil (l ++ (10 ∷ [])))) s ∙ append-assoc l (10 ∷ []) (rest u (past i (l ++ (10 ∷ []))))) ∙ line-more 1 d e true l (rest u (past i (l ++ (10 ∷ [])))) i q h;
-          begins = λ z u s h. tt;
-        })
+        let r : rest (t ++ (10 ∷ [])) i ≡ l ++ (10 ∷ []) = more-rest t i (10 ∷ []) g in (
+          byteOf e,
+          omega arith,
+          finished refl (at-end t e (good-on g w) o),
+          record {
+            text = t ++ (10 ∷ []);
+            value = tt;
+            end = past i (l ++ (10 ∷ []));
+            same = more-same t (10 ∷ []) (byteOf e) f;
+            far = omega arith;
+            reach = rw r (rw (append-nil (l ++ (10 ∷ []))) at (walk-word (l ++ (10 ∷ [])) [] i));
+            inside = omega (arith, length-append t (10 ∷ []));
+            reads = λ u s h. ap (λ (x : List ℕ). scan 1 lead (λ s. none) true x i) (keep-rest (l ++ (10 ∷ [])) (t ++ (10 ∷ [])) u [] i (r ∙ sym (append-nil (l ++ (10 ∷ [])))) s ∙ append-assoc l (10 ∷ []) (rest u (past i (l ++ (10 ∷ []))))) ∙ line-more 1 d e true l (rest u (past i (l ++ (10 ∷ [])))) i q h;
+            begins = λ z u s h. tt;
+          },
+        )
