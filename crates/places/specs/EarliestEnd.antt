@@ -124,7 +124,7 @@ module _ (text name pixels : List ℕ) (p : TextLocation) where
         let same : Same text U k = same-trans text (w .text) U (w .same) s (w .far) in
         let same-o : Same text U (byteOf o) = λ i b. same i (omega arith) in
         let f : Format lim (made h l) U = parts lim (made h l) U .0 (m, n, w .end, U-header U same-o, U-items U same-o, bind-ok closing (λ a. tail) U n tt o (U-closing U same-o) ∙ t4) in
-        savable (Format lim (made h l)) text o 8 p k tail-local y within j cut U same f not-so
+        savable (Format lim (made h l)) text o 8 p k within j cut U same f not-so
 
     saved-8 : Savable text p (Format lim (made h l))
     saved-8 = made-so (tail-open .saves text o 8 p good y)

@@ -1,11 +1,9 @@
--- Texts for each way of the claim on the earliest place: a wrong byte, an end, a token too long, a symbol refused too late. So none of them is empty.
-use mathlib.Core.Path.{_≡_, refl, sym, ap, _∙_}
+-- Texts for each way of the claim on the earliest place: a wrong byte, an end, a token too long, a symbol refused too late, no room. So none is empty.
+use mathlib.Core.Path.{_≡_, refl, sym, ap}
 use Prim.Native.Nat.{ℕ, suc, _+_, _<_}
 use native.Mathlib.Omega.{arith}
-use mathlib.Core.Option.{some}
-use mathlib.Core.Bool.{true, false≢true}
-use mathlib.Core.List.{List, [], _∷_, _++_, append-nil, append-assoc}
-use lib.ListN.{length, take, getElem?, replicate, length-append}
+use mathlib.Core.List.{List, [], _∷_, _++_, append-nil}
+use lib.ListN.{length, take, replicate, length-append}
 use Rattle.text.specs.declared.TextLocation.{TextLocation}
 use Rattle.text.specs.Ascii.{ascii}
 use Rattle.text.specs.Place.{byteOf, placeOf, rest, after}
@@ -23,10 +21,10 @@ use Rattle.image.specs.Reading.{picture, reading}
 use Rattle.grammar.specs.Lang.{Lang, Word, _·_, All, Many, Some, stop as none-more}
 use Rattle.grammar.specs.Grammar.{Mask, blank, solid, Gap, Define, Symbol, Header, Data, Format}
 use Rattle.claims.specs.Terms.{Begun, Opening}
-use Rattle.refusals.specs.Terms.{Token, Second}
+use Rattle.refusals.specs.Terms.{Token}
 use Rattle.refusals.specs.Lines.{front, widths}
 use Rattle.refusals.specs.HeaderRows.{row-1}
-use Rattle.places.specs.Savable.{Can, Lost, TooLong, Savable, taken, ended, peeked, Width, Stuck}
+use Rattle.places.specs.Savable.{Can, Lost, Savable, taken, ended, SavableLine, long, Width, BeforeWidth, Stuck}
 use Rattle.places.specs.EarliestWidth.{named, stuck, exactly}
 use Rattle.places.specs.Earliest.{earliest}
 
@@ -66,6 +64,14 @@ sound w b x y = (
   ),
 )
 
+opens : Opening (ascii "#define ")
+unfolding _·_ Word Gap Some
+opens = ([], ascii "#define ", refl, none-more, (ascii "#define", ascii " ", refl, refl, ((refl, tt), omega arith)))
+
+headed : (Opening · Symbol 256 (ascii "d") · Gap) (ascii "#define d_width ")
+unfolding _·_ Gap Some Symbol
+headed = (ascii "#define ", ascii "d_width ", refl, opens, (ascii "d_width", ascii " ", refl, (refl, (refl, tt), omega arith), ((refl, tt), omega arith)))
+
 -- refused with 1, whatever follows: no continuation has a width line
 gone-1 : (t : List ℕ) (p : TextLocation) → ((v : List ℕ) → reading (t ++ v) name [] .answer ≡ refused 1 p) → Lost (Width 256) t
 gone-1 t p q v (s, b) = row-1 (t ++ v) name [] .0 (p, q v) s b
@@ -81,9 +87,9 @@ unfolding after rest _>>=_ give want one run isBlank isLoose byte skip fixed gap
 ends = (refl, ended refl (ascii "\n", sound (ascii "9") [] ((refl, tt), omega arith) tt))
 
 -- a token of twelve bytes
-long : (reading (ascii "#define d_width 123456789012\n") name [] .answer ≡ refused 1 (placeOf 27 1 27)) × Savable (ascii "#define d_width 123456789012\n") (placeOf 27 1 27) (Width 256)
+too-long : (reading (ascii "#define d_width 123456789012\n") name [] .answer ≡ refused 1 (placeOf 27 1 27)) × SavableLine (ascii "#define d_width 123456789012\n") (placeOf 27 1 27) (BeforeWidth 256) (Width 256)
 unfolding after rest _>>=_ give want one run isBlank isLoose byte skip fixed gap lineEnd leading token endsWith before widthLine header picture reading
-long = (refl, peeked (ascii "#define d_width ", ascii "12345678901", 50, ascii "\n", refl, refl, refl, all) (ascii "\n", sound (ascii "12345678901") [] (all-but, omega arith) tt) (gone-1 (ascii "#define d_width 123456789012") (placeOf 27 1 27) (λ v. refl)))
+too-long = (refl, long (ascii "#define d_width ", ascii "12345678901", 50, ascii "\n", refl, (ascii "d", headed), refl, refl, all) (ascii "\n", sound (ascii "12345678901") [] (all-but, omega arith) tt) (gone-1 (ascii "#define d_width 123456789012") (placeOf 27 1 27) (λ v. refl)))
   where
     all : All solid (ascii "123456789012")
     all = (refl, (refl, (refl, (refl, (refl, (refl, (refl, (refl, (refl, (refl, (refl, (refl, tt))))))))))))
@@ -107,7 +113,7 @@ unfolding after rest _>>=_ give want one run isBlank isLoose byte skip fixed gap
 late = stuck 6 (ascii "#define a ") (placeOf 9 1 9) refl (placeOf 8 1 8) refl refl
 
 -- the bytes before the symbol can be saved; those up to the place cannot, for `a_width` has 7 bytes
-before-it : Can (Width 6) (late .fore)
+before-it : Can (Width 6) (late .bad .fore)
 before-it = late .saved (omega arith)
 
 no-symbol : (z s : List ℕ) → Symbol 6 s (97 ∷ z) → ⊥
@@ -115,12 +121,17 @@ unfolding Symbol
 no-symbol z [] (q, a, l) = let e : _≡_ {A = ℕ} 97 95 = cc in omega arith
 no-symbol z (x ∷ s) (q, a, l) = omega (arith, ap length q, length-append s (ascii "_width"))
 
-opens : Opening (ascii "#define ")
-unfolding _·_ Word Gap Some
-opens = ([], ascii "#define ", refl, none-more, (ascii "#define", ascii " ", refl, refl, ((refl, tt), omega arith)))
-
 gone : Lost (Width 6) (ascii "#define a")
 gone v k = let (z, s, x) = exactly 6 (ascii "#define ") opens (ascii "a") (refl, tt) .0 (v, k) in no-symbol z s x
+
+-- so without the exception the claim would be false: `#define ab ` is refused at byte 10, and nine of its bytes are lost already
+after-all : reading (ascii "#define ab ") (replicate 6 0) [] .answer ≡ refused 1 (placeOf 10 1 10)
+unfolding after rest _>>=_ give want one run isBlank isLoose byte skip fixed gap leading token endsWith before widthLine header picture reading
+after-all = refl
+
+no-other : Savable (ascii "#define ab ") (placeOf 10 1 10) (Width 6) → ⊥
+no-other (taken n q (v, k) g) = let e : n ≡ 9 = omega arith in gone v (rw e at k)
+no-other (ended q c) = omega arith
 
 -- ---- no room for any symbol
 
@@ -128,38 +139,14 @@ nothing : (reading [] (replicate 5 0) [] .answer ≡ refused 1 (placeOf 0 1 0)) 
 unfolding rest _>>=_ run leading header picture reading
 nothing = (refl, ended refl (ascii "#define ", (ascii "#define ", [], refl, opens)))
 
--- ---- by the claim: a wrong byte before a blank
+-- ---- by the claim: a wrong byte that others follow
 
-at-next : (u : List ℕ) (b : ℕ) (v : List ℕ) → getElem? (u ++ (b ∷ v)) (length u) ≡ some b
-at-next [] b v = refl
-at-next (x ∷ u) b v = at-next u b v
-
-module _ (t : List ℕ) (p : TextLocation) (blank-next : getElem? t (byteOf p) ≡ some 32) where
-  no-token : TooLong t (byteOf p) → ⊥
-  no-token (u, w, b, v, f, l, x, a) =
-      let q : getElem? t (byteOf p) ≡ some b = ap (getElem? t) (sym l) ∙ ap (λ (y : List ℕ). getElem? y (length (u ++ w))) (f ∙ sym (append-assoc u w (b ∷ v))) ∙ at-next (u ++ w) b v in
-      let e : b ≡ 32 = cc in
-      false≢true (rw e at (last w b a))
-    where
-      last : (w : List ℕ) (b : ℕ) → All solid (w ++ (b ∷ [])) → solid b ≡ true
-      last [] b a = a .0
-      last (x ∷ w) b a = last w b (a .1)
-
-  only-taken : {L : Lang} (n : ℕ) → suc n ≡ byteOf p → byteOf p < length t → Savable t p L → Can L (take n t) × Lost L (take (suc n) t)
-  only-taken n m i (taken k q c l) = let e : k ≡ n = omega arith in (rw e at c, rw m l)
-  only-taken n m i (ended q c) = absurd (omega arith)
-  only-taken n m i (peeked x c l) = absurd (no-token x)
+only-taken : {L : Lang} (t : List ℕ) (p : TextLocation) (n : ℕ) → suc n ≡ byteOf p → byteOf p < length t → Savable t p L → Can L (take n t) × Lost L (take (suc n) t)
+only-taken t p n m i (taken k q c l) = let e : k ≡ n = omega arith in (rw e at c, rw m l)
+only-taken t p n m i (ended q c) = absurd (omega arith)
 
 abbrev pixels : List ℕ
 pixels = replicate 9 7
-
--- 2: an empty line after the width line
-abbrev T2 : List ℕ
-T2 = ascii "#define d_width 9\n\n #define"
-
-by-2 : (m : Mask) × (Can (Begun (Second 256 m Token)) (take 18 T2) × Lost (Begun (Second 256 m Token)) (take 19 T2))
-unfolding after rest _>>=_ give want need one run fork isBlank isLoose byte skip fixed gap lineEnd leading token isDigit digitsFrom endsWith before positive widthLine header picture reading
-by-2 = let (m, b, s) = earliest T2 name pixels 2 (placeOf 19 3 0) refl .n2 refl in (m, only-taken T2 (placeOf 19 3 0) refl 18 refl (omega arith) s)
 
 -- 6: no hex digit
 abbrev T6 : List ℕ
@@ -170,7 +157,7 @@ Bytes m k t = (l : List ℕ) × (length l ≡ k) × Begun (Header 256 m · Data 
 
 by-6 : (m : Mask) × (k : ℕ) × (Can (Bytes m k) (take 68 T6) × Lost (Bytes m k) (take 69 T6))
 unfolding after rest _>>=_ give want need one run fork eot isBlank isLoose byte skip fixed gap lineEnd leading token hexOf hexv hexDigit isMark hexStart hexDigits hexUnit isDigit digitsFrom restOf endsWith before positive widthLine element arrayLine header item items whole picture reading
-by-6 = let (m, k, r, b, s) = earliest T6 name pixels 6 (placeOf 69 3 32) refl .n6 refl in (m, k, only-taken T6 (placeOf 69 3 32) refl 68 refl (omega arith) s)
+by-6 = let (m, k, r, b, s) = earliest T6 name pixels 6 (placeOf 69 3 32) refl .n6 refl in (m, k, only-taken T6 (placeOf 69 3 32) 68 refl (omega arith) s)
 
 -- 8: a byte after the closing
 abbrev T8 : List ℕ
@@ -178,4 +165,4 @@ T8 = ascii "#define d_width 9\n#define d_height 1\nstatic char d_bits[] = {0x01,
 
 by-8 : (m : Mask) × (Can (Format 256 m) (take 73 T8) × Lost (Format 256 m) (take 74 T8))
 unfolding after rest _>>=_ give want need one run fork eot isBlank isLoose byte skip fixed gap lineEnd leading token hexOf hexv hexDigit isMark hexStart hexDigits hexUnit isDigit digitsFrom restOf endsWith before positive widthLine element arrayLine header item items brace closing tail trailer whole picture reading
-by-8 = let (m, h, l, b, s) = earliest T8 name pixels 8 (placeOf 74 4 1) refl .n8 refl in (m, only-taken T8 (placeOf 74 4 1) refl 73 refl (omega arith) s)
+by-8 = let (m, h, l, b, s) = earliest T8 name pixels 8 (placeOf 74 4 1) refl .n8 refl in (m, only-taken T8 (placeOf 74 4 1) 73 refl (omega arith) s)

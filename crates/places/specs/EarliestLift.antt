@@ -5,28 +5,25 @@ use Prim.Native.Nat.{ℕ, zero, suc, _+_, _≤_}
 use native.Mathlib.Omega.{arith}
 use native.Mathlib.Nat.{le-of-suc-le-suc, not-suc-le-zero}
 use mathlib.Core.List.{List, [], _∷_, _++_}
-use lib.ListN.{length, take, drop, length-append}
+use lib.ListN.{length, take, drop}
 use lib.Seq.{take-all}
 use Rattle.text.specs.declared.TextLocation.{TextLocation}
 use Rattle.text.specs.Place.{byteOf, start}
 use Rattle.text.specs.Rest.{reach-inside}
-use Rattle.text.specs.Reader.{Result, ok, stop, bad, Reader, _>>=_, Same, Local}
+use Rattle.text.specs.Reader.{Result, ok, stop, bad, Reader, _>>=_, Same}
 use Rattle.text.specs.Leaf.{give}
 use Rattle.text.specs.Outcome.{refused, outcome}
 use Rattle.header.specs.Header.{Head, header}
 use Rattle.image.specs.Rows.{whole}
 use Rattle.image.specs.Reading.{picture, reading}
-use Rattle.grammar.specs.Lang.{Lang, Word, _·_}
-use Rattle.grammar.specs.Grammar.{Define}
+use Rattle.grammar.specs.Lang.{Lang, _·_}
 use Rattle.grammar.specs.Bind.{bind-ok}
 use Rattle.grammar.specs.Fits.{Follow, Any, At, Fits}
 use Rattle.claims.specs.Terms.{Begun}
 use Rattle.claims.specs.Numbers.{Numbered, whole-numbered, give-numbered, bind-numbered}
-use Rattle.refusals.specs.Terms.{Token}
-use Rattle.refusals.specs.HeaderRows.{begun-in, begun-out}
 use Rattle.refusals.specs.Stages.{stop-first, stop-second, at-both, at-parts, one-end, read-at, begun}
-use Rattle.places.specs.Savable.{TooLong, Savable, taken, ended, peeked}
-use Rattle.places.specs.Saving.{Good, good-on, front-same, Left, wrong, finished, looked, Saved, Open, fits-keep, walk-word}
+use Rattle.places.specs.Savable.{Savable, taken, ended}
+use Rattle.places.specs.Saving.{Good, good-on, front-same, Left, wrong, finished, Saved, Open, fits-keep, walk-word}
 
 -- ---- the same first bytes, as a text that begins with them
 
@@ -42,50 +39,46 @@ pub good-start : (t : List ℕ) → Good t start
 good-start t = record { sound = record { column = omega arith; line = omega arith }; inside = omega arith }
 
 -- p refuses at i; a text x of the kind L keeps the bytes; and where p refuses so, no text is of that kind
-pub savable : {A : Type 0} {p : Reader A} (L : Lang) (t : List ℕ) (i : TextLocation) (c : ℕ) (e : TextLocation) (n : ℕ) → Local p → p t i ≡ stop c e → byteOf e ≤ length t → byteOf i ≤ n → Left p t i c e n → (x : List ℕ) → Same t x n → L x
+pub savable : {A : Type 0} {p : Reader A} (L : Lang) (t : List ℕ) (i : TextLocation) (c : ℕ) (e : TextLocation) (n : ℕ) → byteOf e ≤ length t → byteOf i ≤ n → Left p t i c e n → (x : List ℕ) → Same t x n → L x
     → ((u : List ℕ) → Same t u (byteOf i) → p u i ≡ stop c e → L u → ⊥) → Savable t e L
-savable {A} {p} L t i c e n loc q w l (wrong z k) x s h g =
+savable L t i c e n w l (wrong z k) x s h g =
     taken n z (drop n x, rw (same-split n t x (omega arith) s) at h) (λ v y. (let o : Same t (take (byteOf e) t ++ v) (byteOf e) = front-same (byteOf e) t v w in g (take (byteOf e) t ++ v) (λ j b. o j (omega arith)) (k (take (byteOf e) t ++ v) o) y))
-savable {A} {p} L t i c e n loc q w l (finished z k) x s h g =
+savable L t i c e n w l (finished z k) x s h g =
     let y : take n t ≡ t = take-all n t (omega arith) in
     ended k (drop n x, rw (ap (λ (r : List ℕ). r ++ drop n x) (sym y) ∙ sym (same-split n t x (omega arith) s)) h)
-savable {A} {p} L t i c e n loc q w l (looked z k) x s h g =
-    peeked k (drop n x, rw (← z, ← same-split n t x (omega arith) s) h) (λ v y. (let o : Same t (take (suc (byteOf e)) t ++ v) (suc (byteOf e)) = front-same (suc (byteOf e)) t v (long k) in
-    g (take (suc (byteOf e)) t ++ v) (λ j b. o j (omega arith)) (loc .near t (take (suc (byteOf e)) t ++ v) i (rw q o) ∙ q) y))
-  where
-    long : TooLong t (byteOf e) → suc (byteOf e) ≤ length t
-    long (u, a, b, r, f, m, y, o) = omega (arith, ap length f, length-append u (a ++ (b ∷ r)), length-append a (b ∷ r), length-append u a)
 
 -- the same texts
 pub savable-same : {K L : Lang} (t : List ℕ) (e : TextLocation) → ((u : List ℕ) → K u ↔ L u) → Savable t e K → Savable t e L
 savable-same t e f (taken n z (v, k) g) = taken n z (v, f (take n t ++ v) .0 k) (λ r l. g r (f (take (byteOf e) t ++ r) .1 l))
 savable-same t e f (ended z (v, k)) = ended z (v, f (t ++ v) .0 k)
-savable-same t e f (peeked z (v, k) g) = peeked z (v, f (take (byteOf e) t ++ v) .0 k) (λ r l. g r (f (take (suc (byteOf e)) t ++ r) .1 l))
 
 -- ---- from the start
 
-pub at-start : {B : Type 0} {raw : Reader B} {G : Follow} (T : B → Type 0) (L : B → Lang) → ((b : B) → Fits raw b (T b) (L b) Any) → Local raw → (t : List ℕ) (c : ℕ) (e : TextLocation) → raw t start ≡ stop c e → Saved raw Any G t start c e
-    → Savable t e (λ u. (b : B) × T b × Begun (L b) u)
+pub at-start : {B : Type 0} {raw : Reader B} {G : Follow} (T : B → Type 0) (L : B → Lang) → ((b : B) → Fits raw b (T b) (L b) Any) → Open raw Any G → (t : List ℕ) (c : ℕ) (e : TextLocation) → raw t start ≡ stop c e → Savable t e (λ u. (b : B) × T b × Begun (L b) u)
 unfolding Any
-at-start {B} {raw} {G} T L fits loc t c e q (n, l, k, w) =
-    savable (λ u. (b : B) × T b × Begun (L b) u) t start c e n loc q within l k (w .text) (w .same) there none-there
+at-start {B} {raw} {G} T L fits opens t c e q = go (opens .saves t start c e (good-start t) q)
   where
-    within : byteOf e ≤ length t
-    within = reach-inside t start (rw q at (loc .reach t start)) (omega arith)
-
-    there : (b : B) × T b × Begun (L b) (w .text)
-    there =
-        let r : raw (w .text) start ≡ ok (w .value) (w .end) = w .reads (w .text) (λ j k. refl) tt in
-        let (x, a) = fits (w .value) .to (w .text) start (w .end) r in
-        (w .value, x, begun (L (w .value)) (w .text) .0 (w .end, a))
-
     none-there : (u : List ℕ) → Same t u 0 → raw u start ≡ stop c e → (b : B) × T b × Begun (L b) u → ⊥
     none-there u s z (b, x, y) =
         let (m, a) = begun (L b) u .1 y in
         let o : raw u start ≡ ok b m = read-at (fits b) u start m .1 (x, a) in
         let v : _≡_ {A = ℕ} 0 1 = cc in omega arith
 
+    go : Saved raw (λ r. Unit {0}) G t start c e → Savable t e (λ u. (b : B) × T b × Begun (L b) u)
+    go (n, l, k, w) =
+        let r : raw (w .text) start ≡ ok (w .value) (w .end) = w .reads (w .text) (λ j k. refl) tt in
+        let (x, a) = fits (w .value) .to (w .text) start (w .end) r in
+        savable (λ u. (b : B) × T b × Begun (L b) u) t start c e n (reach-inside t start (rw q at (opens .able .local .reach t start)) (omega arith)) l k (w .text) (w .same)
+        (w .value, x, begun (L (w .value)) (w .text) .0 (w .end, a)) none-there
+
 -- ---- after what stands before it
+
+-- a refusal with a line's number is the line's
+pub staged : {A B C : Type 0} (pre : Reader A) (line : A → Reader B) (next : A → B → Reader C) {lo hi x y lo′ hi′ x′ y′ : ℕ} (c : ℕ) → Numbered lo hi x y pre → (lo ≤ c → c ≤ hi → ⊥) → ((a : A) (b : B) → Numbered lo′ hi′ x′ y′ (next a b)) → (lo′ ≤ c → c ≤ hi′ → ⊥)
+    → (t : List ℕ) (e : TextLocation) → (pre >>= λ a. line a >>= next a) t start ≡ stop c e → (a : A) × (m : TextLocation) × (pre t start ≡ ok a m) × (line a t m ≡ stop c e)
+staged pre line next c np o nn oo t e q =
+    let (a, m, u, v) = stop-second pre (λ a. line a >>= next a) c t start np o .0 (e, q) in
+    (a, m, u, stop-first (line a) (next a) c t m (nn a) oo e .0 (sym (bind-ok pre (λ a. line a >>= next a) t start a m u) ∙ q))
 
 module _ {A B C : Type 0} (pre : Reader A) (line : A → Reader B) (next : A → B → Reader C) (K : A → Lang) (H : A → Type 0) (T : B → Type 0) (L : A → B → Lang) (fits : (a : A) → Fits pre a (Unit {0}) (K a) Any) (holds : (a : A) (w : List ℕ) → K a w → H a) (fit : (a : A) → H a → (b : B) → Fits (line a) b (T b) (L a b) Any) (opens : (a : A) → H a → Open (line a) Any Any) where
   pub at-line : (t : List ℕ) (c : ℕ) (e : TextLocation) (a : A) (m : TextLocation) → pre t start ≡ ok a m → line a t m ≡ stop c e → Savable t e (λ u. (b : B) × T b × Begun (K a · L a b) u)
@@ -120,7 +113,7 @@ module _ {A B C : Type 0} (pre : Reader A) (line : A → Reader B) (next : A →
               let v : pre (y .text) start ≡ ok a m = again (y .text) (λ j i. y .same j (omega arith)) in
               let q : line a (y .text) m ≡ ok (y .value) (y .end) = y .reads (y .text) (λ j i. refl) tt in
               let (x, p) = fit a h (y .value) .to (y .text) m (y .end) q in
-              savable (λ u. (b : B) × T b × Begun (K a · L a b) u) t m c e n (opens a h .able .local) z within l cut (y .text) (y .same)
+              savable (λ u. (b : B) × T b × Begun (K a · L a b) u) t m c e n within l cut (y .text) (y .same)
               (y .value, x, begun (K a · L a (y .value)) (y .text) .0 (y .end, at-both (K a) (L a (y .value)) (y .text) start m (y .end) (read-at (fits a) (y .text) start m .0 v .1) p))
               none-there
 
@@ -128,12 +121,8 @@ module _ {A B C : Type 0} (pre : Reader A) (line : A → Reader B) (next : A →
   pub at-stage : {lo hi x y lo′ hi′ x′ y′ : ℕ} (c : ℕ) → Numbered lo hi x y pre → (lo ≤ c → c ≤ hi → ⊥) → ((a : A) (b : B) → Numbered lo′ hi′ x′ y′ (next a b)) → (lo′ ≤ c → c ≤ hi′ → ⊥)
       → (t : List ℕ) (e : TextLocation) → (pre >>= λ a. line a >>= next a) t start ≡ stop c e → (a : A) × Begun (K a) t × Savable t e (λ u. (b : B) × T b × Begun (K a · L a b) u)
   at-stage c np o nn oo t e q =
-      let (a, m, u, v) = stop-second pre (λ a. line a >>= next a) c t start np o .0 (e, q) in
-      (a, begun (K a) t .0 (m, read-at (fits a) t start m .0 u .1), at-line t c e a m u (stop-first (line a) (next a) c t m (nn a) oo e .0 (sym (bind-ok pre (λ a. line a >>= next a) t start a m u) ∙ q)))
-
--- a token told apart, or any
-pub any-token : (K S : Lang) (t : List ℕ) (e : TextLocation) → Savable t e (λ u. (w : List ℕ) × Token w × Begun (K · Define S (Word w)) u) → Savable t e (Begun (K · Define S Token))
-any-token K S t e = savable-same t e (λ u. ((λ (w, x, b). begun-in K S Token w u b x), λ b. begun-out K S Token u b))
+      let (a, m, u, v) = staged pre line next c np o nn oo t e q in
+      (a, begun (K a) t .0 (m, read-at (fits a) t start m .0 u .1), at-line t c e a m u v)
 
 -- ---- whose refusal a reading tells
 

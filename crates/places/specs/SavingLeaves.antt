@@ -19,7 +19,7 @@ use Rattle.grammar.specs.Grammar.{solid}
 use Rattle.grammar.specs.Fits.{Follow, Any, End, Off, Next}
 use Rattle.grammar.specs.Pieces.{one-fits, skip-fits, end-fits, blank-is, solid-blank}
 use Rattle.claims.specs.Numbers.{skip-numbered, placed-number}
-use Rattle.places.specs.Saving.{Good, Way, Left, wrong, finished, looked, Saved, Open, fits-keep, word-way, bind-open, same-trans, same-next, at-end}
+use Rattle.places.specs.Saving.{Good, Way, Left, wrong, finished, Saved, Open, fits-keep, word-way, bind-open, same-trans, same-next, at-end}
 
 pub no-growth : {A : Type 0} {p : Reader A} → Grows p → (t : List ℕ) (i : TextLocation) (a : A) → p t i ≡ ok a i → ⊥
 no-growth {A} {p} g t i a q =
@@ -232,7 +232,6 @@ fork-open {A} c x {p} y {q} {F} {G} hp hq gp gq fp fq kx ky ne = record {
         left : Left p t i d e n → Left (λ t i. forkOf c x p y q (rest t i) t i) t i d e n
         left (wrong m h) = wrong m (λ u s. on-x (rest u i) u i (kept x b l (rest u i) z (same-byte t u i (byteOf e) b l r s (omega arith))) ∙ h u s)
         left (finished m h) = finished m h
-        left (looked m h) = looked m h
 
     by-y : (t : List ℕ) (i : TextLocation) (d : ℕ) (e : TextLocation) (b : ℕ) (l : List ℕ) → rest t i ≡ b ∷ l → b ≡ y → Saved q F (Next y) t i d e → Saved (λ t i. forkOf c x p y q (rest t i) t i) F G t i d e
     by-y t i d e b l r z (n, o, k, w) = (n, o, left k, lift-y t i n begins o w)
@@ -243,7 +242,6 @@ fork-open {A} c x {p} y {q} {F} {G} hp hq gp gq fp fq kx ky ne = record {
         left : Left q t i d e n → Left (λ t i. forkOf c x p y q (rest t i) t i) t i d e n
         left (wrong m h) = wrong m (λ u s. on-y (rest u i) u i (kept y b l (rest u i) z (same-byte t u i (byteOf e) b l r s (omega arith))) ∙ h u s)
         left (finished m h) = finished m h
-        left (looked m h) = looked m h
 
     neither : (b : ℕ) (l m u : List ℕ) (i : TextLocation) → eqb b x ≡ false → eqb b y ≡ false → Alike (b ∷ l) m → forkOf c x p y q m u i ≡ stop c (after b i)
     neither b l m u i e f heads = rw (e, f) refl

@@ -6,19 +6,19 @@ use mathlib.Core.List.{List, [], _∷_}
 use Rattle.text.specs.declared.TextLocation.{TextLocation}
 use Rattle.text.specs.Ascii.{ascii}
 use Rattle.text.specs.Place.{byteOf}
-use Rattle.text.specs.Reader.{Reader, _>>_}
-use Rattle.text.specs.Leaf.{fork}
-use Rattle.lexical.specs.Lexical.{is, fixed, gap, isBlank, isLoose, isBlank, firms}
+use Rattle.text.specs.Reader.{Reader, _>>=_, _>>_}
+use Rattle.text.specs.Leaf.{give, fork}
+use Rattle.lexical.specs.Lexical.{is, fixed, gap, lineEnd, isBlank, isLoose, firms}
+use Rattle.lexical.specs.Token.{token}
 use Rattle.lexical.specs.Hex.{hexv, hexOf, hexDigit, hexStart, hexDigits, hexUnit, isMark}
-use Rattle.header.specs.Header.{element, arrayLine, line-laws}
+use Rattle.header.specs.Header.{hashDefine, element, arrayLine, line-laws}
 use Rattle.decoder.specs.Data.{item, items, brace, closing, tail}
 use Rattle.grammar.specs.Lang.{All}
 use Rattle.grammar.specs.Grammar.{solid}
 use Rattle.grammar.specs.Fits.{Follow, Any, End, Off, Next}
-use Rattle.refusals.specs.Lines.{raw, known}
-use Rattle.places.specs.Saving.{Way, Open, bind-open}
+use Rattle.places.specs.Saving.{Way, Able, Open, bind-able, bind-open}
 use Rattle.places.specs.SavingLeaves.{next-off, give-open, one-open, byte-open, skip-open, fixed-open, gap-open, lineEnd-open, name-open, eot-open, fork-open}
-use Rattle.places.specs.SavingRuns.{token-open}
+use Rattle.places.specs.SavingRuns.{token-able}
 
 -- how it begins does not matter
 pub bind-any : {A : Type 0} {p : Reader A} {F G : Follow} → Open p F G → Open p F Any
@@ -31,16 +31,27 @@ bind-any {A} {p} {F} {G} h = record {
     wider : (t : List ℕ) (i : TextLocation) (n : ℕ) → Way p F G t i n → Way p F (λ r. Unit {0}) t i n
     wider t i n w = record { text = w .text; value = w .value; end = w .end; same = w .same; far = w .far; reach = w .reach; inside = w .inside; reads = w .reads; begins = λ z u s k. tt }
 
--- ---- the define lines, with any token
+-- ---- the define lines
 
-pub raw-open : (c : ℕ) {F G : Follow} → ((r : List ℕ) → G (32 ∷ r)) → Open (raw c) F G
-unfolding raw isBlank Any
-raw-open c b = bind-open {F = Next 10} (gap-open c (next-off isBlank 10 refl) b) (λ a. bind-open {F = Next 10} (token-open c (next-off solid 10 refl)) (λ w. bind-open (lineEnd-open c {F = Any}) (λ b. give-open w (λ r h. tt))))
+-- one whose symbol is known, up to its token
+unfoldable pub headed : ℕ → List ℕ → List ℕ → Reader (Unit {0})
+headed c name z = fixed c hashDefine >> gap c >> fixed c name >> fixed c z >> gap c
 
-pub known-open : (c : ℕ) (name z : List ℕ) {F : Follow} → All solid name → Open (known c name (95 ∷ z)) F (Next 35)
-unfolding known Next Any
-known-open c name z s =
-    bind-open {F = Any} (fixed-open c 35 (ascii "define") (λ r. refl)) (λ a. bind-open {F = Off isBlank} (gap-open c (λ r h. h) (λ r. tt)) (λ a. bind-open {F = Next 95} (name-open c name s) (λ a. bind-open {F = Any} (fixed-open c 95 z (λ r. refl)) (λ a. raw-open c (λ r. tt)))))
+pub headed-open : (c : ℕ) (name z : List ℕ) → All solid name → Open (headed c name (95 ∷ z)) (Next 10) (Next 35)
+unfolding headed Next Any isBlank
+headed-open c name z s =
+    bind-open {F = Any} (fixed-open c 35 (ascii "define") (λ r. refl)) (λ a. bind-open {F = Off isBlank} (gap-open c (λ r h. h) (λ r. tt)) (λ a. bind-open {F = Next 95} (name-open c name s) (λ a. bind-open {F = Any} (fixed-open c 95 z (λ r. refl)) (λ a. gap-open c (next-off isBlank 10 refl) (λ r. tt)))))
+
+-- its token and its end
+abbrev pub valued : {A B : Type 0} → ℕ → (A → List ℕ → B) → A → Reader B
+valued c f a = token isLoose c 11 >>= λ w. lineEnd c >>= λ x. give (f a w)
+
+pub lined-open : {B : Type 0} (c : ℕ) (b : B) → Open (lineEnd c >>= λ x. give b) Any (Next 10)
+unfolding Any
+lined-open c b = bind-open (lineEnd-open c {F = Any}) (λ x. give-open b (λ r h. tt))
+
+pub valued-able : {A B : Type 0} (c : ℕ) (f : A → List ℕ → B) (a : A) → Able (valued c f a) Any (Next 10)
+valued-able c f a = bind-able {F = Next 10} (token-able c (next-off solid 10 refl)) (λ w. lined-open c (f a w) .able)
 
 -- ---- the array line
 

@@ -6,10 +6,10 @@ use native.Mathlib.Nat.{le-of-suc-le-suc, not-suc-le-zero}
 use mathlib.Core.Option.{none, some}
 use mathlib.Core.Bool.{Bool, true, false, not}
 use mathlib.Core.List.{List, [], _∷_, _++_, append-assoc, append-nil}
-use lib.ListN.{length, take, drop, length-append, take-append-drop}
+use lib.ListN.{length, take, drop, length-append}
 use lib.Seq.{length-take-le}
 use lib.Dec.{eqb, ltb}
-use borrow.Author.Tests.{le-leb, ltb-true, ltb-false}
+use borrow.Author.Tests.{lt-ltb, le-ltb, not-true, le-leb, ltb-true, ltb-false}
 use Rattle.text.specs.declared.TextLocation.{TextLocation}
 use Rattle.text.specs.Place.{pick, byteOf, rest, after, past}
 use Rattle.text.specs.Rest.{Reach, reach-inside, rest-room}
@@ -18,12 +18,11 @@ use Rattle.text.specs.Leaf.{run, scan, moved, go-on, stay, halt}
 use Rattle.lexical.specs.Lexical.{isLoose, lead, leading, leading-local}
 use Rattle.lexical.specs.Token.{upTo, token, token-local, token-mild}
 use Rattle.grammar.specs.Lang.{Word, All, Star, stop as none-more}
-use Rattle.grammar.specs.Grammar.{solid, Skipped}
+use Rattle.grammar.specs.Grammar.{space, solid, Skipped}
 use Rattle.grammar.specs.Bind.{past-byte, move}
 use Rattle.grammar.specs.Fits.{Follow, Any, Off, Next}
 use Rattle.grammar.specs.Pieces.{token-fits, leading-fits, loose-is}
-use Rattle.places.specs.Savable.{TooLong}
-use Rattle.places.specs.Saving.{Good, good-on, good-rest, at-end, front-length, Way, finished, looked, Saved, Open, fits-keep, word-way, keep-rest, walk-word}
+use Rattle.places.specs.Saving.{Good, good-on, at-end, Way, finished, Saved, Able, Open, fits-keep, word-way, keep-rest, walk-word}
 
 -- ---- a token: refused before one byte too many, and the bytes before that are a token
 
@@ -48,56 +47,63 @@ module _ (e : ℕ → Bool) (firm : (b : ℕ) → e b ≡ false → solid b ≡ 
 pub loose-solid : (b : ℕ) → isLoose b ≡ false → solid b ≡ true
 loose-solid b q = ap not (ap (λ (f : ℕ → Bool). f b) (sym loose-is) ∙ q)
 
-pub token-open : (c : ℕ) {F : Follow} → ((r : List ℕ) → F r → Off solid r) → Open (token isLoose c 11) F F
-unfolding Word token run
-token-open c {F} k = record {
-  able = record {
+solid-loose : (b : ℕ) → solid b ≡ true → isLoose b ≡ false
+solid-loose b q = ap (λ (f : ℕ → Bool). f b) loose-is ∙ not-true (space b) q
+
+module _ (c lim : ℕ) (t : List ℕ) (i : TextLocation) where
+  pub token-over : (d : ℕ) (o : TextLocation) → token isLoose c lim t i ≡ stop d o → Over isLoose loose-solid c lim d o [] (rest t i) i
+  unfolding token run
+  token-over d o q = over isLoose loose-solid c lim d o [] (rest t i) i (omega arith) q
+
+  pub over-token : (w : List ℕ) (b : ℕ) (r : List ℕ) → rest t i ≡ w ++ (b ∷ r) → length w ≡ lim → All solid (w ++ (b ∷ [])) → token isLoose c lim t i ≡ stop c (past i w)
+  unfolding token run
+  over-token w b r q n a = ap (λ (l : List ℕ). scan c (upTo isLoose lim) (λ w. some w) [] l i) q ∙ go [] w i (omega arith) a
+    where
+      go : (v w : List ℕ) (i : TextLocation) → length v + length w ≡ lim → All solid (w ++ (b ∷ [])) → scan c (upTo isLoose lim) (λ w. some w) v (w ++ (b ∷ r)) i ≡ stop c (past i w)
+      go v [] i n a = rw (solid-loose b (a .0), le-ltb (length v) lim (omega arith)) refl
+      go v (x ∷ w) i n a = rw (solid-loose x (a .0), lt-ltb (length v) lim (omega arith)) (go (v ++ (x ∷ [])) w (after x i) (omega (arith, length-append v (x ∷ []))) (a .1))
+
+module _ (c : ℕ) {F : Follow} (k : (r : List ℕ) → F r → Off solid r) where
+  keep : (t u : List ℕ) (i : TextLocation) (a : List ℕ) (m : TextLocation) → token isLoose c 11 t i ≡ ok a m → Same t u (byteOf m) → F (rest u m) → token isLoose c 11 u i ≡ ok a m
+  keep = fits-keep {F = F} (λ w. All solid w × (length w ≤ 11)) Word (token-fits c 11) k
+
+  pub token-able : Able (token isLoose c 11) F F
+  unfolding Word
+  token-able = record {
     local = token-local isLoose c 11;
     keeps = keep;
     empty = λ t i a q h. h;
-    can = λ t i g. word-way X Word (token-fits c 11) k [] [] (tt, omega arith) refl (λ r h. h) t i g;
-  };
-  saves = λ t i d o g q. save t i d o g q;
-}
-  where
-    X : List ℕ → Type 0
-    X w = All solid w × (length w ≤ 11)
+    can = λ t i g. word-way (λ w. All solid w × (length w ≤ 11)) Word (token-fits c 11) k [] [] (tt, omega arith) refl (λ r h. h) t i g;
+  }
 
-    keep : (t u : List ℕ) (i : TextLocation) (a : List ℕ) (m : TextLocation) → token isLoose c 11 t i ≡ ok a m → Same t u (byteOf m) → F (rest u m) → token isLoose c 11 u i ≡ ok a m
-    keep = fits-keep {F = F} X Word (token-fits c 11) k
-
-    -- the text has the token too long
-    long : (t : List ℕ) (i o : TextLocation) (v : List ℕ) (b : ℕ) (m : List ℕ) → Good t i → rest t i ≡ v ++ (b ∷ m) → o ≡ past i v → length v ≡ 11 → All solid (v ++ (b ∷ [])) → TooLong t (byteOf o)
-    long t i o v b m g r x n a =
-        (take (byteOf i) t, v, b, m, sym (take-append-drop (byteOf i) t) ∙ ap (λ (z : List ℕ). take (byteOf i) t ++ z) (sym (good-rest t i g) ∙ r), front-length t (byteOf i) v (g .inside) ∙ sym (ap byteOf x ∙ past-byte i v), n, a)
-
-    save : (t : List ℕ) (i : TextLocation) (d : ℕ) (o : TextLocation) → Good t i → token isLoose c 11 t i ≡ stop d o → Saved (token isLoose c 11) F F t i d o
-    save t i d o g q =
-        let (v, b, m, r, x, y, a, z) = over isLoose loose-solid c 11 d o [] (rest t i) i (omega arith) q in
-        let f : byteOf o ≡ byteOf i + 11 = ap byteOf x ∙ past-byte i v ∙ omega arith in
-        let w : Reach t i o = rw q at (token-local isLoose c 11 .reach t i) in
-        let n : byteOf o ≤ length t = reach-inside t i w (g .inside) in
-        let h : byteOf (endOf (token isLoose c 11 t i)) ≡ byteOf o = ap (λ (r : Result (List ℕ)). byteOf (endOf r)) q in
-        (byteOf o, omega arith, looked refl (long t i o v b m g r x (omega arith) a), go t i o n f (token isLoose c 11 (take (byteOf o) t) i) refl (cut-end (token-local isLoose c 11) t i (byteOf o) (omega arith) n (omega arith)))
-      where
-        go : (t : List ℕ) (i o : TextLocation) → byteOf o ≤ length t → byteOf o ≡ byteOf i + 11 → (r : Result (List ℕ)) → token isLoose c 11 (take (byteOf o) t) i ≡ r → byteOf (endOf (token isLoose c 11 (take (byteOf o) t) i)) ≡ byteOf o → Way (token isLoose c 11) F F t i (byteOf o)
-        go t i o n l (ok a m) r y =
-            let x : byteOf m ≡ byteOf o = sym (ap (λ (r : Result (List ℕ)). byteOf (endOf r)) r) ∙ y in
-            record {
-              text = take (byteOf o) t;
-              value = a;
-              end = m;
-              same = same-take (byteOf o) t;
-              far = omega arith;
-              reach = rw r at (token-local isLoose c 11 .reach (take (byteOf o) t) i);
-              inside = omega (arith, length-take-le (byteOf o) t n);
-              reads = λ u s h. keep (take (byteOf o) t) u i a m r s h;
-              begins = λ z u s h. absurd (omega arith);
-            }
-        go t i o n l (stop d m) r y =
-            let (v, b, w, u, x, z, a, k) = over isLoose loose-solid c 11 d m [] (rest (take (byteOf o) t) i) i (omega arith) r in
-            absurd (omega (arith, rest-room (take (byteOf o) t) i (omega (arith, length-take-le (byteOf o) t n)), length-take-le (byteOf o) t n, ap length u, length-append v (b ∷ w)))
-        go t i o n l (bad d m) r y = let z : Placed {A = List ℕ} (bad d m) = rw r at (token-mild isLoose c 11 .mild (take (byteOf o) t) i) in absurd z
+  -- the bytes before the one too many are a token
+  pub token-way : (t : List ℕ) (i : TextLocation) (d : ℕ) (o : TextLocation) → Good t i → token isLoose c 11 t i ≡ stop d o → Way (token isLoose c 11) F F t i (byteOf o)
+  token-way t i d o g q =
+      let (v, b, m, r, x, y, a, z) = token-over c 11 t i d o q in
+      let f : byteOf o ≡ byteOf i + 11 = ap byteOf x ∙ past-byte i v ∙ omega arith in
+      let w : Reach t i o = rw q at (token-local isLoose c 11 .reach t i) in
+      let n : byteOf o ≤ length t = reach-inside t i w (g .inside) in
+      let h : byteOf (endOf (token isLoose c 11 t i)) ≡ byteOf o = ap (λ (r : Result (List ℕ)). byteOf (endOf r)) q in
+      go n f (token isLoose c 11 (take (byteOf o) t) i) refl (cut-end (token-local isLoose c 11) t i (byteOf o) (omega arith) n (omega arith))
+    where
+      go : byteOf o ≤ length t → byteOf o ≡ byteOf i + 11 → (r : Result (List ℕ)) → token isLoose c 11 (take (byteOf o) t) i ≡ r → byteOf (endOf (token isLoose c 11 (take (byteOf o) t) i)) ≡ byteOf o → Way (token isLoose c 11) F F t i (byteOf o)
+      go n l (ok a m) r y =
+          let x : byteOf m ≡ byteOf o = sym (ap (λ (r : Result (List ℕ)). byteOf (endOf r)) r) ∙ y in
+          record {
+            text = take (byteOf o) t;
+            value = a;
+            end = m;
+            same = same-take (byteOf o) t;
+            far = omega arith;
+            reach = rw r at (token-local isLoose c 11 .reach (take (byteOf o) t) i);
+            inside = omega (arith, length-take-le (byteOf o) t n);
+            reads = λ u s h. keep (take (byteOf o) t) u i a m r s h;
+            begins = λ z u s h. absurd (omega arith);
+          }
+      go n l (stop d m) r y =
+          let (v, b, w, u, x, z, a, k) = token-over c 11 (take (byteOf o) t) i d m r in
+          absurd (omega (arith, rest-room (take (byteOf o) t) i (omega (arith, length-take-le (byteOf o) t n)), length-take-le (byteOf o) t n, ap length u, length-append v (b ∷ w)))
+      go n l (bad d m) r y = let z : Placed {A = List ℕ} (bad d m) = rw r at (token-mild isLoose c 11 .mild (take (byteOf o) t) i) in absurd z
 
 -- ---- the leading lines: refused at the end alone; a newline and `#` save them
 

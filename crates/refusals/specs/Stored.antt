@@ -100,7 +100,7 @@ bare t name pixels h = go (opening t start) refl
 
 -- ---- in the claim's words
 
-off : (g : ℕ → Bool) (l : List ℕ) → NotNext g l → Off g l
+pub off : (g : ℕ → Bool) (l : List ℕ) → NotNext g l → Off g l
 unfolding Off
 off g [] h = tt
 off g (b ∷ l) h = h
