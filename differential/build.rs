@@ -1,7 +1,7 @@
 //! Links the proved reader's static library where it is found, and says so plainly where it is not.
 
-use std::env;
-use std::path::{Path, PathBuf};
+use std::path::PathBuf;
+use std::{env, fs};
 
 /// The repository's root, seen from this package.
 const ROOT: &str = "..";
@@ -26,8 +26,13 @@ fn main() {
     let dir = package.join(ROOT).join(given);
     let library = dir.join("libxbm_c.a");
     println!("cargo::rerun-if-changed={}", library.display());
-    if library.exists() {
-        link(&dir);
+    if let Ok(made) = fs::metadata(&library).and_then(|about| about.modified()) {
+        println!("cargo::rustc-link-search=native={}", dir.display());
+        println!("cargo::rustc-link-lib=static=xbm_c");
+        println!("cargo::rustc-cfg=has_library");
+        // The programs ask at each run whether this is still the library, and newer than its sources.
+        println!("cargo::rustc-env=XBM_LIBRARY={}", library.display());
+        println!("cargo::rustc-env=XBM_LIBRARY_MADE={made:?}");
     } else {
         let shown = library.display();
         println!("cargo::warning=the proved reader is not at {shown}");
@@ -36,10 +41,4 @@ fn main() {
         );
         println!("cargo::warning=until then `compare` and `bench` only say that it is missing");
     }
-}
-
-fn link(dir: &Path) {
-    println!("cargo::rustc-link-search=native={}", dir.display());
-    println!("cargo::rustc-link-lib=static=xbm_c");
-    println!("cargo::rustc-cfg=has_library");
 }

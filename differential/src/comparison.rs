@@ -1,6 +1,9 @@
-//! One call on both sides, with everything compared: answer, report, hotspot, whole buffers, decoder.
+//! One call on both sides, with everything compared: answer, report, hotspot, whole buffers, decoder, and what
+//! must stay as it was: the text, and the bytes beside each lent thing.
 
-use crate::interface::{entry, Answer, Interface, StreamDecoder, NONE_LEFT, NO_HOTSPOT_ENTRY};
+use crate::classes::Reached;
+use crate::interface::{entry, Answer, Interface, Stray, StreamDecoder};
+use crate::interface::{NONE_LEFT, NO_HOTSPOT_ENTRY};
 use crate::random::Random;
 use oracle::{Decoder, Header, Place, ReadHeader, Refusal, NAME_BUFFER_LENGTH};
 use std::fmt::Write;
@@ -12,7 +15,10 @@ pub type Difference = String;
 const GUARD: usize = 16;
 
 /// The longest buffer that is ever lent.
-pub const LONGEST_BUFFER: usize = 1 << 17;
+pub const LONGEST_BUFFER: usize = 1 << 18;
+
+/// So many bytes of a text are printed; the seed gives the rest again.
+const SHOWN: usize = 4000;
 
 /// The number that a foreign decoder gets. The original has none.
 const FOREIGN: u32 = 9;
@@ -33,6 +39,86 @@ impl Lent {
         let end = self.bytes.len() - GUARD;
         &mut self.bytes[GUARD..end]
     }
+
+    /// Whether the guards are as in another that was filled alike.
+    fn stray(&self, thing: &'static str, other: &Lent) -> Option<Stray> {
+        let end = self.bytes.len() - GUARD;
+        let before_kept = self.bytes[..GUARD] == other.bytes[..GUARD];
+        Stray::found(thing, before_kept, self.bytes[end..] == other.bytes[end..])
+    }
+}
+
+/// A text to be read, with the bytes that stand after it in memory: for a cut, what was cut off.
+#[derive(Clone, Copy)]
+pub struct Text<'t> {
+    bytes: &'t [u8],
+    rest: &'t [u8],
+}
+
+impl<'t> Text<'t> {
+    /// The first `n` bytes of a whole.
+    pub fn cut(whole: &'t [u8], n: usize) -> Text<'t> {
+        let (bytes, rest) = whole.split_at(n);
+        Text { bytes, rest }
+    }
+
+    pub fn bytes(&self) -> &'t [u8] {
+        self.bytes
+    }
+}
+
+impl<'t> From<&'t [u8]> for Text<'t> {
+    fn from(bytes: &'t [u8]) -> Text<'t> {
+        Text { bytes, rest: &[] }
+    }
+}
+
+impl<'t> From<&'t Vec<u8>> for Text<'t> {
+    fn from(bytes: &'t Vec<u8>) -> Text<'t> {
+        bytes.as_slice().into()
+    }
+}
+
+/// Stands after texts, from a start that goes round: a reader past the end would read on.
+const TEMPTING: &[u8] = b", 0x5a, 0x5a};\n ,\n   0X5A,0x5a};\n  9\n#define d_height 1\n";
+
+/// A copy of a text between two guards, the second of which begins with the text's rest.
+#[derive(Default)]
+struct LentText {
+    bytes: Vec<u8>,
+    length: usize,
+    before: Vec<u8>,
+    after: Vec<u8>,
+}
+
+impl LentText {
+    fn fill(&mut self, text: Text, filling: &[u8], turn: usize) {
+        self.length = text.bytes.len();
+        self.before.clear();
+        self.before.extend_from_slice(&filling[..GUARD]);
+        self.after.clear();
+        self.after.extend_from_slice(text.rest);
+        self.after.extend(TEMPTING.iter().cycle().skip(turn % TEMPTING.len()).take(GUARD));
+        self.bytes.clear();
+        for part in [&self.before, text.bytes, &self.after] {
+            self.bytes.extend_from_slice(part);
+        }
+    }
+
+    fn part(&mut self) -> &mut [u8] {
+        &mut self.bytes[GUARD..GUARD + self.length]
+    }
+
+    /// Whether the text is as it was lent.
+    fn kept(&self, text: Text) -> bool {
+        self.bytes[GUARD..GUARD + self.length] == *text.bytes
+    }
+
+    fn stray(&self) -> Option<Stray> {
+        let before_kept = self.bytes.starts_with(&self.before);
+        let after_kept = self.bytes[GUARD + self.length..] == self.after;
+        Stray::found("text", before_kept, after_kept)
+    }
 }
 
 /// The buffers that one side is lent.
@@ -43,7 +129,7 @@ struct Side {
 }
 
 /// The calls of the interface.
-#[derive(Clone, Copy, PartialEq, Eq)]
+#[derive(Clone, Copy, Debug, PartialEq, Eq)]
 pub enum Call {
     ReadHeader,
     ReadImage,
@@ -122,6 +208,8 @@ fn label(call: Call, number: usize) -> String {
 
 pub struct Comparison<'i> {
     interface: &'i Interface,
+    /// The text that ours is lent. The original cannot write to its own.
+    text: LentText,
     original: Side,
     ours: Side,
     /// Bytes from which fillings are cut; none is 0 or 255, so that a written cell shows.
@@ -129,6 +217,7 @@ pub struct Comparison<'i> {
     /// Where the next filling begins.
     next_filling: usize,
     pub tally: Tally,
+    pub reached: Reached,
 }
 
 impl<'i> Comparison<'i> {
@@ -137,17 +226,20 @@ impl<'i> Comparison<'i> {
         let length = LONGEST_BUFFER + 2 * GUARD + FILLINGS;
         Comparison {
             interface,
+            text: LentText::default(),
             original: Side::default(),
             ours: Side::default(),
             fillings: (0..length).map(|_| random.within(1, 254) as u8).collect(),
             next_filling: 0,
             tally: Tally::default(),
+            reached: Reached::default(),
         }
     }
 
-    fn fill(&mut self, name_length: usize, pixel_length: usize) {
+    fn fill(&mut self, text: Text, name_length: usize, pixel_length: usize) {
         self.next_filling = (self.next_filling + 1) % FILLINGS;
         let filling = &self.fillings[self.next_filling..];
+        self.text.fill(text, filling, self.next_filling);
         for side in [&mut self.original, &mut self.ours] {
             side.name.fill(name_length, filling);
             side.pixels.fill(pixel_length, filling);
@@ -155,14 +247,15 @@ impl<'i> Comparison<'i> {
     }
 
     /// `read_header` beside `read_xbm_header` with the same name buffer. Gives what was accepted.
-    pub fn read_header(
+    pub fn read_header<'t>(
         &mut self,
-        text: &[u8],
+        text: impl Into<Text<'t>>,
         name_length: usize,
     ) -> Result<Option<ReadHeader>, Difference> {
-        self.fill(name_length, 0);
-        let read = oracle::read_header(text, self.original.name.part());
-        let ours = self.interface.read_header(text, self.ours.name.part());
+        let text = text.into();
+        self.fill(text, name_length, 0);
+        let read = oracle::read_header(text.bytes, self.original.name.part());
+        let ours = self.interface.read_header(self.text.part(), self.ours.name.part());
         let expected = match read {
             Ok(read) => Answer {
                 report: with_place(header_report(&read.header, read.name_length), read.place),
@@ -175,40 +268,45 @@ impl<'i> Comparison<'i> {
     }
 
     /// `read_image` beside the original's two calls.
-    pub fn read_image(
+    pub fn read_image<'t>(
         &mut self,
-        text: &[u8],
+        text: impl Into<Text<'t>>,
         name_length: usize,
         pixel_length: usize,
     ) -> Result<(), Difference> {
-        self.fill(name_length, pixel_length);
+        let text = text.into();
+        self.fill(text, name_length, pixel_length);
         let original = &mut self.original;
-        let expected = original_image(text, original.name.part(), original.pixels.part());
-        let ours = &mut self.ours;
-        let ours = self.interface.read_image(text, ours.name.part(), ours.pixels.part());
-        self.settle(Call::ReadImage, text, expected, ours)
+        let expected = original_image(text.bytes, original.name.part(), original.pixels.part());
+        let (lent, side) = (self.text.part(), &mut self.ours);
+        let ours = self.interface.read_image(lent, side.name.part(), side.pixels.part());
+        self.settle(Call::ReadImage, text, expected, ours)?;
+        self.reached.add(text.bytes, name_length, &expected);
+        Ok(())
     }
 
     /// Up to `calls` calls of `next_byte` in a row, on the decoder as the last one left it.
     /// A few calls follow the first that gives no byte.
-    pub fn next_bytes(
+    pub fn next_bytes<'t>(
         &mut self,
-        text: &[u8],
+        text: impl Into<Text<'t>>,
         decoder: StreamDecoder,
         calls: usize,
     ) -> Result<(), Difference> {
-        if foreign(text, &decoder) {
+        let text = text.into();
+        self.fill(text, 0, 0);
+        if foreign(text.bytes, &decoder) {
             return self.next_byte_foreign(text, decoder);
         }
         let StreamDecoder { width, height, current_position, location } = decoder;
-        let mut original = Decoder::lent(text, width, height, current_position, location);
+        let mut original = Decoder::lent(text.bytes, width, height, current_position, location);
         let mut ours = decoder;
         let mut left = calls;
         while left > 0 {
             left -= 1;
             let before = ours;
             let read = original.next_byte();
-            let answer = self.interface.next_byte(text, &mut ours);
+            let answer = self.interface.next_byte(self.text.part(), &mut ours);
             let later = StreamDecoder {
                 width: original.header().width,
                 height: original.header().height,
@@ -219,7 +317,7 @@ impl<'i> Comparison<'i> {
                 Ok(byte) => {
                     let mut report = with_place([0; 8], later.location);
                     report[entry::DATA_BYTE] = byte.map_or(NONE_LEFT, u64::from);
-                    Answer { result: 0, report, hotspot: NO_HOTSPOT_ENTRY, strayed: false }
+                    Answer { result: 0, report, hotspot: NO_HOTSPOT_ENTRY, stray: None }
                 }
                 Err(refusal) => Answer { hotspot: NO_HOTSPOT_ENTRY, ..refused(&refusal) },
             };
@@ -232,28 +330,32 @@ impl<'i> Comparison<'i> {
     }
 
     /// A foreign decoder gets 9 and stays as it is.
-    fn next_byte_foreign(&mut self, text: &[u8], lent: StreamDecoder) -> Result<(), Difference> {
+    fn next_byte_foreign(&mut self, text: Text, lent: StreamDecoder) -> Result<(), Difference> {
         let mut ours = lent;
-        let answer = self.interface.next_byte(text, &mut ours);
+        let answer = self.interface.next_byte(self.text.part(), &mut ours);
         let expected =
-            Answer { result: FOREIGN, report: [0; 8], hotspot: NO_HOTSPOT_ENTRY, strayed: false };
+            Answer { result: FOREIGN, report: [0; 8], hotspot: NO_HOTSPOT_ENTRY, stray: None };
         self.settle_decoder(text, lent, (expected, lent), (answer, ours))
     }
 
     fn settle(
         &mut self,
         call: Call,
-        text: &[u8],
+        text: Text,
         expected: Answer,
-        ours: Answer,
+        mut ours: Answer,
     ) -> Result<(), Difference> {
-        let buffers_agree = self.original.name.bytes == self.ours.name.bytes
-            && self.original.pixels.bytes == self.ours.pixels.bytes;
-        if expected == ours && buffers_agree {
+        let (original, side) = (&self.original, &self.ours);
+        ours.stray = ours.stray.or(side.name.stray("name buffer", &original.name));
+        ours.stray = ours.stray.or(side.pixels.stray("pixel buffer", &original.pixels));
+        ours.stray = ours.stray.or(self.text.stray());
+        let buffers_agree =
+            original.name.bytes == side.name.bytes && original.pixels.bytes == side.pixels.bytes;
+        if expected == ours && buffers_agree && self.text.kept(text) {
             self.tally.add(call, &expected);
             return Ok(());
         }
-        let mut out = heading(CALLS[call as usize].1, text);
+        let mut out = self.heading(CALLS[call as usize].1, text);
         let filling = &self.fillings[self.next_filling..];
         let sides = [
             ("name", &self.original.name, &self.ours.name),
@@ -276,21 +378,36 @@ impl<'i> Comparison<'i> {
 
     fn settle_decoder(
         &mut self,
-        text: &[u8],
+        text: Text,
         lent: StreamDecoder,
         expected: (Answer, StreamDecoder),
-        ours: (Answer, StreamDecoder),
+        mut ours: (Answer, StreamDecoder),
     ) -> Result<(), Difference> {
-        if expected == ours {
+        ours.0.stray = ours.0.stray.or(self.text.stray());
+        if expected == ours && self.text.kept(text) {
             self.tally.add(Call::NextByte, &expected.0);
             return Ok(());
         }
-        let mut out = heading("next_byte", text);
+        let mut out = self.heading("next_byte", text);
         writeln!(out, "decoder lent:   {lent:?}").unwrap();
         writeln!(out, "expected later: {:?}", expected.1).unwrap();
         writeln!(out, "ours later:     {:?}", ours.1).unwrap();
         write_answers(&mut out, &expected.0, &ours.0);
         Err(out)
+    }
+
+    /// The call and its text, and what became of the text if it changed.
+    fn heading(&self, call: &str, text: Text) -> String {
+        let length = text.bytes.len();
+        let shown = &text.bytes[..length.min(SHOWN)];
+        let mut out = format!("{call} differs on this text of {length} bytes:\n");
+        let more = if shown.len() < length { " and more" } else { "" };
+        writeln!(out, "\"{}\"{more}", shown.escape_ascii()).unwrap();
+        let pairs = text.bytes.iter().zip(&self.text.bytes[GUARD..]);
+        for (i, (a, b)) in pairs.enumerate().filter(|(_, (a, b))| a != b).take(8) {
+            writeln!(out, "ours changed byte {i} of the text from {a} to {b}").unwrap();
+        }
+        out
     }
 }
 
@@ -341,7 +458,7 @@ pub fn original_image(text: &[u8], name: &mut [u8], pixels: &mut [u8]) -> Answer
 
 fn accepted_header(header: &Header) -> Answer {
     let (x, y) = header.hotspot.unwrap_or((0, 0));
-    Answer { result: 0, report: [0; 8], hotspot: [x, y], strayed: false }
+    Answer { result: 0, report: [0; 8], hotspot: [x, y], stray: None }
 }
 
 fn header_report(header: &Header, name_length: usize) -> [u64; 8] {
@@ -365,11 +482,7 @@ fn refused(refusal: &Refusal) -> Answer {
         Some(place) => with_place([0; 8], place),
         None => [0; 8],
     };
-    Answer { result: refusal.number, report, hotspot: [0, 0], strayed: false }
-}
-
-fn heading(call: &str, text: &[u8]) -> String {
-    format!("{call} differs on this text of {} bytes:\n\"{}\"\n", text.len(), text.escape_ascii())
+    Answer { result: refusal.number, report, hotspot: [0, 0], stray: None }
 }
 
 fn write_answers(out: &mut String, expected: &Answer, ours: &Answer) {
@@ -378,7 +491,7 @@ fn write_answers(out: &mut String, expected: &Answer, ours: &Answer) {
 }
 
 fn told(answer: &Answer) -> String {
-    let Answer { result, report, hotspot, strayed } = answer;
-    let strayed = if *strayed { ", wrote beside its report" } else { "" };
-    format!("result {result}, report {report:?}, hotspot {hotspot:?}{strayed}")
+    let Answer { result, report, hotspot, stray } = answer;
+    let stray = stray.map_or(String::new(), |stray| format!(", {stray}"));
+    format!("result {result}, report {report:?}, hotspot {hotspot:?}{stray}")
 }

@@ -1,7 +1,7 @@
 //! The C interface of the proved reader, called on slices.
 
 use oracle::Place;
-use std::ptr;
+use std::{fmt, ptr};
 
 /// A decoder as C lends it: sides, data bytes spent, place.
 #[derive(Clone, Copy, Debug, PartialEq, Eq)]
@@ -59,55 +59,83 @@ pub struct Answer {
     pub result: u32,
     pub report: Report,
     pub hotspot: Hotspot,
-    /// It wrote beside its report or its hotspot.
-    pub strayed: bool,
+    /// Where it wrote beside its report, its hotspot or its decoder.
+    pub stray: Option<Stray>,
+}
+
+/// A write just before or just past a lent thing.
+#[derive(Clone, Copy, Debug, PartialEq, Eq)]
+pub struct Stray {
+    pub thing: &'static str,
+    pub past: bool,
+}
+
+impl Stray {
+    /// What the two guards of a thing tell.
+    pub fn found(thing: &'static str, before_kept: bool, after_kept: bool) -> Option<Stray> {
+        (!(before_kept && after_kept)).then_some(Stray { thing, past: before_kept })
+    }
+}
+
+impl fmt::Display for Stray {
+    fn fmt(&self, out: &mut fmt::Formatter) -> fmt::Result {
+        write!(out, "wrote {} the {}", if self.past { "past" } else { "before" }, self.thing)
+    }
 }
 
 /// What report and hotspot hold before a call, and what stands beside them.
 const JUNK: u64 = 0xa5a5_5a5a_c3c3_3c3c;
 const JUNK_HOTSPOT: i32 = 0x5a5a_3c3c;
 
-/// Report and hotspot, each between two words that no call may touch.
+/// A lent thing between words that no call may touch.
 #[repr(C)]
+struct Guarded<T> {
+    before: [u64; 2],
+    lent: T,
+    after: [u64; 2],
+}
+
+impl<T> Guarded<T> {
+    /// The guards touch the thing: nothing lies between them.
+    const CLOSE: () = assert!(size_of::<Guarded<T>>() == size_of::<T>() + 32);
+
+    fn new(lent: T) -> Guarded<T> {
+        let () = Self::CLOSE;
+        Guarded { before: [JUNK; 2], lent, after: [JUNK; 2] }
+    }
+
+    fn pointer<E>(&mut self) -> *mut E {
+        (&raw mut self.lent).cast()
+    }
+
+    fn stray(&self, thing: &'static str) -> Option<Stray> {
+        Stray::found(thing, self.before == [JUNK; 2], self.after == [JUNK; 2])
+    }
+}
+
+/// What a call is to fill beside the buffers.
 struct Told {
-    before: u64,
-    report: Report,
-    between: u64,
-    hotspot: Hotspot,
-    after: u64,
+    report: Guarded<Report>,
+    hotspot: Guarded<Hotspot>,
 }
 
 impl Told {
     fn new() -> Told {
-        Told {
-            before: JUNK,
-            report: [JUNK; 8],
-            between: JUNK,
-            hotspot: [JUNK_HOTSPOT; 2],
-            after: JUNK,
-        }
+        Told { report: Guarded::new([JUNK; 8]), hotspot: Guarded::new([JUNK_HOTSPOT; 2]) }
     }
 
     fn answer(self, result: u32) -> Answer {
         Answer {
             result,
-            report: self.report,
-            hotspot: self.hotspot,
-            strayed: [self.before, self.between, self.after] != [JUNK; 3],
+            report: self.report.lent,
+            hotspot: self.hotspot.lent,
+            stray: self.report.stray("report").or(self.hotspot.stray("hotspot")),
         }
     }
 }
 
 /// An empty buffer goes as a null pointer.
-fn pointer(bytes: &[u8]) -> *const u8 {
-    if bytes.is_empty() {
-        ptr::null()
-    } else {
-        bytes.as_ptr()
-    }
-}
-
-fn pointer_mut(bytes: &mut [u8]) -> *mut u8 {
+fn pointer(bytes: &mut [u8]) -> *mut u8 {
     if bytes.is_empty() {
         ptr::null_mut()
     } else {
@@ -115,43 +143,47 @@ fn pointer_mut(bytes: &mut [u8]) -> *mut u8 {
     }
 }
 
+/// A text is lent as memory of the caller's own, so that a write to it can be seen.
 impl Interface {
-    pub fn read_header(&self, text: &[u8], name: &mut [u8]) -> Answer {
+    pub fn read_header(&self, text: &mut [u8], name: &mut [u8]) -> Answer {
         let mut told = Told::new();
         let result = unsafe {
             (self.read_header)(
                 pointer(text),
                 text.len(),
-                pointer_mut(name),
+                pointer(name),
                 name.len(),
-                told.report.as_mut_ptr(),
-                told.hotspot.as_mut_ptr(),
+                told.report.pointer(),
+                told.hotspot.pointer(),
             )
         };
         told.answer(result)
     }
 
     /// The call has no hotspot; the answer's is as it was filled.
-    pub fn next_byte(&self, text: &[u8], decoder: &mut StreamDecoder) -> Answer {
+    pub fn next_byte(&self, text: &mut [u8], decoder: &mut StreamDecoder) -> Answer {
         let mut told = Told::new();
+        let mut lent = Guarded::new(*decoder);
         let result = unsafe {
-            (self.next_byte)(pointer(text), text.len(), decoder, told.report.as_mut_ptr())
+            (self.next_byte)(pointer(text), text.len(), lent.pointer(), told.report.pointer())
         };
-        told.answer(result)
+        *decoder = lent.lent;
+        let answer = told.answer(result);
+        Answer { stray: lent.stray("decoder").or(answer.stray), ..answer }
     }
 
-    pub fn read_image(&self, text: &[u8], name: &mut [u8], pixels: &mut [u8]) -> Answer {
+    pub fn read_image(&self, text: &mut [u8], name: &mut [u8], pixels: &mut [u8]) -> Answer {
         let mut told = Told::new();
         let result = unsafe {
             (self.read_image)(
                 pointer(text),
                 text.len(),
-                pointer_mut(name),
+                pointer(name),
                 name.len(),
-                pointer_mut(pixels),
+                pointer(pixels),
                 pixels.len(),
-                told.report.as_mut_ptr(),
-                told.hotspot.as_mut_ptr(),
+                told.report.pointer(),
+                told.hotspot.pointer(),
             )
         };
         told.answer(result)
@@ -161,8 +193,8 @@ impl Interface {
 /// The hotspot of a call that has none: as it was filled.
 pub const NO_HOTSPOT_ENTRY: Hotspot = [JUNK_HOTSPOT; 2];
 
-/// The static library's calls, if this was built with it.
-pub fn linked() -> Option<Interface> {
+/// The static library's calls, if this was built with it. `library::linked` also asks whether it is the right one.
+pub(crate) fn built_in() -> Option<Interface> {
     #[cfg(has_library)]
     return Some(library::INTERFACE);
     #[cfg(not(has_library))]

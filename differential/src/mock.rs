@@ -1,6 +1,7 @@
 //! A stand-in for the proved reader, made of the original, with faults planted at will.
 //! It only tests the comparison: no result of it says anything of the proved reader.
 
+use crate::comparison::Call;
 use crate::interface::{Interface, StreamDecoder};
 use oracle::{Decoder, Header, Place, Refusal};
 use std::cell::Cell;
@@ -15,8 +16,6 @@ pub enum Fault {
     Line,
     /// The last cell of a row one past whole bytes is not written.
     Cell,
-    /// One cell past the buffer is written.
-    Overrun,
     /// Cells of a remainder shorter than a row are written.
     Remainder,
     /// The last byte of a symbol that is too long is not stored.
@@ -39,14 +38,54 @@ pub enum Fault {
     Bits,
     /// The largest width is taken for an integer that does not fit.
     WidestRefused,
+    /// A cell is wrong where the text is above 60,000 bytes.
+    LongText,
+    /// A cell is wrong where the width is above 2,000.
+    Wide,
+    /// The line is one too few after a preamble above 60,000 bytes.
+    LongPreamble,
+    /// The length of a name above 270 bytes is one too few.
+    LongName,
+    /// A cell is wrong in a long run of bytes parted by a comma and a tab.
+    Tabs,
+    /// The byte after the text is read too.
+    Overread,
+    /// The call changes its text.
+    TextChanged(Call),
+    /// The call writes a byte just before or just past something that it is lent.
+    Stray(Call, Thing, Side),
 }
 
+/// What a call is lent.
+#[derive(Clone, Copy, Debug, PartialEq, Eq)]
+pub enum Thing {
+    Text,
+    Name,
+    Pixels,
+    Decoder,
+    Report,
+    Hotspot,
+}
+
+#[derive(Clone, Copy, Debug, PartialEq, Eq)]
+pub enum Side {
+    Before,
+    Past,
+}
+
+/// Each call with what it is lent.
+const LENT: [(Call, &[Thing]); 3] = [
+    (Call::ReadHeader, &[Thing::Text, Thing::Name, Thing::Report, Thing::Hotspot]),
+    (Call::NextByte, &[Thing::Text, Thing::Decoder, Thing::Report]),
+    (Call::ReadImage, &[Thing::Text, Thing::Name, Thing::Pixels, Thing::Report, Thing::Hotspot]),
+];
+
 impl Fault {
-    pub const ALL: [Fault; 15] = [
+    /// Those of the answers and the cells.
+    pub const ANSWERS: [Fault; 20] = [
         Fault::Column,
         Fault::Line,
         Fault::Cell,
-        Fault::Overrun,
         Fault::Remainder,
         Fault::NameByte,
         Fault::NameTakenBack,
@@ -58,7 +97,37 @@ impl Fault {
         Fault::Report,
         Fault::Bits,
         Fault::WidestRefused,
+        Fault::LongText,
+        Fault::Wide,
+        Fault::LongPreamble,
+        Fault::LongName,
+        Fault::Tabs,
+        Fault::Overread,
     ];
+
+    /// Those that write where nothing may be written, each with what is to be said of it.
+    pub fn writes() -> Vec<(Fault, String)> {
+        let mut all = Vec::new();
+        for (call, things) in LENT {
+            all.push((Fault::TextChanged(call), "ours changed byte 0 of the text".into()));
+            for &thing in things {
+                for side in [Side::Before, Side::Past] {
+                    let name = match thing {
+                        Thing::Text => "text",
+                        Thing::Name => "name buffer",
+                        Thing::Pixels => "pixel buffer",
+                        Thing::Decoder => "decoder",
+                        Thing::Report => "report",
+                        Thing::Hotspot => "hotspot",
+                    };
+                    let side_name = if side == Side::Past { "past" } else { "before" };
+                    let said = format!("wrote {side_name} the {name}");
+                    all.push((Fault::Stray(call, thing, side), said));
+                }
+            }
+        }
+        all
+    }
 }
 
 thread_local! {
@@ -81,6 +150,43 @@ fn plant(fault: Option<Fault>) -> Interface {
 
 fn planted(fault: Fault) -> bool {
     PLANTED.get() == Some(fault)
+}
+
+/// Writes beside what a call is lent, where that is planted.
+unsafe fn stray<T>(call: Call, thing: Thing, lent: *mut T, length: usize) {
+    let bytes = lent.cast::<u8>();
+    for side in [Side::Before, Side::Past] {
+        if planted(Fault::Stray(call, thing, side)) && length > 0 {
+            let place = match side {
+                Side::Before => bytes.sub(1),
+                Side::Past => bytes.add(length * size_of::<T>()),
+            };
+            *place = !*place;
+        }
+    }
+}
+
+/// Changes the first byte of a call's text where that is planted: at the call's end, so that its answer is right.
+struct Changing {
+    call: Call,
+    text: *mut u8,
+    length: usize,
+}
+
+impl Drop for Changing {
+    fn drop(&mut self) {
+        if planted(Fault::TextChanged(self.call)) && self.length > 0 {
+            unsafe { *self.text = !*self.text };
+        }
+    }
+}
+
+/// The text that a call is lent, and one byte more where that is planted.
+unsafe fn text_part<'a>(call: Call, text: *const u8, length: usize) -> (&'a [u8], Changing) {
+    let lent = text.cast_mut();
+    stray(call, Thing::Text, lent, length);
+    let read = if planted(Fault::Overread) && length > 0 { length + 1 } else { length };
+    (part(text, read), Changing { call, text: lent, length })
 }
 
 unsafe fn part<'a>(pointer: *const u8, length: usize) -> &'a [u8] {
@@ -142,7 +248,12 @@ unsafe extern "C" fn read_header(
     report: *mut u64,
     hotspot: *mut i32,
 ) -> u32 {
-    let (text, name) = (part(text, text_len), part_mut(name, name_len));
+    const CALL: Call = Call::ReadHeader;
+    stray(CALL, Thing::Name, name, name_len);
+    stray(CALL, Thing::Report, report, 8);
+    stray(CALL, Thing::Hotspot, hotspot, 2);
+    let (text, _changing) = text_part(CALL, text, text_len);
+    let name = part_mut(name, name_len);
     let (report, hotspot) = cleared(report, hotspot);
     let last = name.last().copied();
     match oracle::read_header(text, name) {
@@ -153,6 +264,13 @@ unsafe extern "C" fn read_header(
             tell(report, read.place);
             tell_header(report, hotspot, read.header);
             report[5] = read.name_length as u64;
+            if planted(Fault::LongName) && read.name_length > 270 {
+                report[5] -= 1;
+            }
+            let after_preamble = text.windows(2).take(60_000).all(|pair| pair != b"\n#");
+            if planted(Fault::LongPreamble) && text[0] != b'#' && after_preamble {
+                report[1] -= 1;
+            }
             0
         }
         Err(refusal) => {
@@ -170,7 +288,10 @@ unsafe extern "C" fn next_byte(
     decoder: *mut StreamDecoder,
     report: *mut u64,
 ) -> u32 {
-    let text = part(text, text_len);
+    const CALL: Call = Call::NextByte;
+    stray(CALL, Thing::Decoder, decoder, 1);
+    stray(CALL, Thing::Report, report, 8);
+    let (text, _changing) = text_part(CALL, text, text_len);
     let decoder = &mut *decoder;
     let (report, _) = cleared(report, [0; 2].as_mut_ptr());
     let StreamDecoder { width, height, current_position, location } = *decoder;
@@ -213,12 +334,14 @@ unsafe extern "C" fn read_image(
     report: *mut u64,
     hotspot: *mut i32,
 ) -> u32 {
-    let (text, name) = (part(text, text_len), part_mut(name, name_len));
+    const CALL: Call = Call::ReadImage;
+    stray(CALL, Thing::Name, name, name_len);
+    stray(CALL, Thing::Pixels, pixels, pixels_len);
+    stray(CALL, Thing::Report, report, 8);
+    stray(CALL, Thing::Hotspot, hotspot, 2);
+    let (text, _changing) = text_part(CALL, text, text_len);
+    let name = part_mut(name, name_len);
     let (report, hotspot) = cleared(report, hotspot);
-    let overrun = planted(Fault::Overrun) && pixels_len > 0;
-    if overrun {
-        *pixels.add(pixels_len) = 0;
-    }
     let pixels = part_mut(pixels, pixels_len);
     let lent = pixels.to_vec();
     let mut scratch = vec![0; name_len];
@@ -235,7 +358,7 @@ unsafe extern "C" fn read_image(
     match answer {
         Ok(header) => {
             let width = header.width as usize;
-            spoil(pixels, &lent, width);
+            spoil(text, pixels, &lent, width);
             tell_header(report, hotspot, header);
             0
         }
@@ -254,8 +377,14 @@ unsafe extern "C" fn read_image(
 }
 
 /// Plants the faults that touch the cells of an accepted picture.
-fn spoil(pixels: &mut [u8], lent: &[u8], width: usize) {
+fn spoil(text: &[u8], pixels: &mut [u8], lent: &[u8], width: usize) {
     let whole = pixels.len() / width * width;
+    let wrong_cell = planted(Fault::LongText) && text.len() > 60_000
+        || planted(Fault::Wide) && width > 2_000
+        || planted(Fault::Tabs) && text.windows(4).filter(|w| w == b",\t0x").count() > 100;
+    if wrong_cell {
+        pixels[whole - 1] = !pixels[whole - 1];
+    }
     if planted(Fault::Cell) && width % 8 == 1 {
         pixels[width - 1] = lent[width - 1];
     }

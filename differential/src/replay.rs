@@ -415,8 +415,10 @@ mod tests {
     fn planted_faults_change_the_list() {
         let stored = List::stored().bytes();
         let made_by = |interface: Interface| {
-            List::of_families(&|text, name, pixels| interface.read_image(text, name, pixels))
-                .bytes()
+            List::of_families(&|text, name, pixels| {
+                interface.read_image(&mut text.to_vec(), name, pixels)
+            })
+            .bytes()
         };
         assert!(made_by(mock::without_fault()) == stored);
         for fault in [

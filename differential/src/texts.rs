@@ -19,14 +19,130 @@ pub const TOKENS: &[&str] = &[
 ];
 
 /// How the data and the space around it stand.
-#[derive(Clone, Copy, PartialEq, Eq)]
+#[derive(Clone, Copy, Debug, PartialEq, Eq)]
 pub enum Layout {
     /// `{0x01,0x02};`
     Compact,
     /// As the X tools write: a fresh line, three spaces, twelve bytes a line.
     Tools,
+    /// `0x01, 0x02`, all on one line.
+    OneLine,
+    /// A comma and a newline after each byte.
+    ByteALine,
+    /// Bare commas, fifteen bytes a line after one space.
+    BareLines,
+    /// Tabs for spaces, in the header too.
+    Tabs,
+    /// As the X tools write, but `0X` and capital digits.
+    Capitals,
     /// Any space that the format allows, drawn anew for each place.
     Loose,
+}
+
+/// A layout in which nothing is drawn.
+#[derive(Clone, Copy)]
+pub struct Spacing {
+    pub title: &'static str,
+    /// In the header, where a gap stands.
+    gap: &'static str,
+    /// Before the first byte.
+    opening: &'static str,
+    /// Between two bytes of a line.
+    between: &'static str,
+    /// Between two lines.
+    turn: &'static str,
+    /// Bytes to a line.
+    line: usize,
+    /// `0x` or `0X`, with digits alike.
+    prefix: &'static str,
+}
+
+impl Layout {
+    /// Those of real files.
+    pub const REAL: [Layout; 7] = [
+        Layout::Compact,
+        Layout::Tools,
+        Layout::OneLine,
+        Layout::ByteALine,
+        Layout::BareLines,
+        Layout::Tabs,
+        Layout::Capitals,
+    ];
+
+    /// None where the space is drawn.
+    pub fn spacing(self) -> Option<Spacing> {
+        let tools = Spacing {
+            title: "twelve to a line",
+            gap: " ",
+            opening: "\n   ",
+            between: ", ",
+            turn: ",\n   ",
+            line: 12,
+            prefix: "0x",
+        };
+        // The same between any two bytes.
+        let even = |title, opening, between| Spacing {
+            title,
+            opening,
+            between,
+            turn: between,
+            line: 1,
+            ..tools
+        };
+        Some(match self {
+            Layout::Compact => even("compact", "", ","),
+            Layout::Tools => tools,
+            Layout::OneLine => even("one line", "", ", "),
+            Layout::ByteALine => even("comma and newline", "\n", ",\n"),
+            Layout::BareLines => Spacing {
+                title: "bare commas in lines",
+                opening: "\n ",
+                between: ",",
+                turn: ",\n ",
+                line: 15,
+                ..tools
+            },
+            Layout::Tabs => Spacing {
+                title: "tabs",
+                gap: "\t",
+                opening: "\n\t",
+                between: ",\t",
+                turn: ",\n\t",
+                line: 8,
+                ..tools
+            },
+            Layout::Capitals => Spacing { title: "0X", prefix: "0X", ..tools },
+            Layout::Loose => return None,
+        })
+    }
+}
+
+impl Spacing {
+    /// What stands before the data byte with this index.
+    fn before(&self, index: usize) -> &'static str {
+        match index {
+            0 => self.opening,
+            _ if index.is_multiple_of(self.line) => self.turn,
+            _ => self.between,
+        }
+    }
+
+    /// Whether a sound text has its data so, with a turn among it.
+    pub fn is_of(&self, text: &[u8]) -> bool {
+        let brace = text.iter().rposition(|&b| b == b'{');
+        let mut rest = &text[brace.map_or(0, |at| at + 1)..];
+        let mut bytes = 0;
+        while !rest.starts_with(b"}") {
+            let spaced = rest.strip_prefix(self.before(bytes).as_bytes());
+            let digits = spaced.and_then(|form| form.strip_prefix(self.prefix.as_bytes()));
+            match digits.and_then(|digits| digits.get(2..)) {
+                Some(after) => rest = after,
+                None => return false,
+            }
+            bytes += 1;
+        }
+        bytes > self.line
+    }
 }
 
 /// A mask as its text tells it. Tokens are bytes, so that any of them can be wrong.
@@ -83,10 +199,42 @@ impl Mask {
         mask
     }
 
+    /// A drawn mask in a layout of real files.
+    pub fn real(random: &mut Random) -> Mask {
+        let mut mask = Mask::random(random);
+        mask.layout = Layout::REAL[random.below(Layout::REAL.len())];
+        mask
+    }
+
+    /// A mask of a wide picture, of much data, after a long preamble or with a long name, in any layout.
+    pub fn long(random: &mut Random) -> Mask {
+        let kind = random.below(4);
+        let (width, height) = match kind {
+            0 => (random.within(2001, 40_000), random.within(1, 3)),
+            1 => {
+                let width = random.within(1, 600);
+                (width, random.within(10_000, 14_000).div_ceil(row_bytes(width)))
+            }
+            _ => (random.within(1, 40), random.within(1, 40)),
+        };
+        let mut mask = Mask::real(random);
+        (mask.width, mask.height) = (width.to_string().into(), height.to_string().into());
+        mask.data = (0..row_bytes(width) * height).map(|_| random.byte()).collect();
+        if random.once_in(8) {
+            mask.layout = Layout::Loose;
+        }
+        match kind {
+            2 => mask.preamble = long_preamble(random),
+            3 => mask.name = vec![random.pick_byte(b"n_\xff"); random.within(245, 300)],
+            _ => (),
+        }
+        mask
+    }
+
     /// The mask's text. Only the loose layout draws numbers.
     pub fn text(&self, random: &mut Random) -> Vec<u8> {
-        let mut out =
-            Writer { text: self.preamble.clone(), loose: self.layout == Layout::Loose, random };
+        let spacing = self.layout.spacing();
+        let mut out = Writer { text: self.preamble.clone(), spacing, random };
         out.define(&self.name, b"_width", &self.width);
         out.define(&self.name, b"_height", &self.height);
         if let Some([x, y]) = &self.hotspot {
@@ -107,20 +255,25 @@ impl Mask {
         out.put(b"=");
         out.gap();
         out.put(b"{");
-        out.data(&self.data, self.layout);
+        out.data(&self.data);
         out.text
     }
 }
 
 struct Writer<'r> {
     text: Vec<u8>,
-    loose: bool,
+    /// None where the space is drawn.
+    spacing: Option<Spacing>,
     random: &'r mut Random,
 }
 
 impl Writer<'_> {
     fn put(&mut self, bytes: &[u8]) {
         self.text.extend_from_slice(bytes);
+    }
+
+    fn loose(&self) -> bool {
+        self.spacing.is_none()
     }
 
     fn define(&mut self, name: &[u8], suffix: &[u8], token: &[u8]) {
@@ -130,7 +283,7 @@ impl Writer<'_> {
         self.put(suffix);
         self.gap();
         self.put(token);
-        if self.loose && self.random.once_in(3) {
+        if self.loose() && self.random.once_in(3) {
             self.gap();
         }
         self.put(b"\n");
@@ -138,8 +291,8 @@ impl Writer<'_> {
 
     /// One or more blanks.
     fn gap(&mut self) {
-        if !self.loose {
-            return self.put(b" ");
+        if let Some(spacing) = self.spacing {
+            return self.put(spacing.gap.as_bytes());
         }
         for _ in 0..self.random.within(1, 3) {
             let blank = self.random.pick_byte(b"  \t");
@@ -149,7 +302,7 @@ impl Writer<'_> {
 
     /// Any run of space, tab and newline, most often a short one.
     fn space(&mut self) {
-        if !self.loose {
+        if !self.loose() {
             return;
         }
         let longest = if self.random.once_in(20) { 20 } else { 2 };
@@ -159,26 +312,21 @@ impl Writer<'_> {
         }
     }
 
-    fn data(&mut self, data: &[u8], layout: Layout) {
+    fn data(&mut self, data: &[u8]) {
         for (i, &byte) in data.iter().enumerate() {
-            match layout {
-                Layout::Tools if i == 0 => self.put(b"\n   "),
-                Layout::Tools if i % 12 == 0 => self.put(b",\n   "),
-                Layout::Tools => self.put(b", "),
-                Layout::Compact if i > 0 => self.put(b","),
-                Layout::Compact => (),
-                Layout::Loose => {
-                    if i > 0 {
-                        self.space();
-                        self.put(b",");
-                    }
+            if let Some(spacing) = self.spacing {
+                self.put(spacing.before(i).as_bytes());
+            } else {
+                if i > 0 {
                     self.space();
+                    self.put(b",");
                 }
+                self.space();
             }
             self.hex_byte(byte);
         }
         self.space();
-        if self.loose && self.random.once_in(3) {
+        if self.loose() && self.random.once_in(3) {
             self.put(b",");
             self.space();
         }
@@ -186,13 +334,18 @@ impl Writer<'_> {
         self.space();
         self.put(b";");
         self.space();
-        if !self.loose {
+        if !self.loose() {
             self.put(b"\n");
         }
     }
 
     fn hex_byte(&mut self, byte: u8) {
-        let form = if self.loose { self.random.below(8) } else { 0 };
+        // A bit for the prefix and for each digit: capital or not.
+        let form = match self.spacing {
+            Some(spacing) if spacing.prefix == "0X" => 7,
+            Some(_) => 0,
+            None => self.random.below(8),
+        };
         self.put(if form % 2 == 0 { b"0x" } else { b"0X" });
         for (k, digit) in [byte >> 4, byte & 15].into_iter().enumerate() {
             let upper = form >> (k + 1) & 1 == 1;
@@ -255,21 +408,42 @@ pub fn preamble(random: &mut Random) -> Vec<u8> {
     for _ in 0..random.within(1, 4) {
         let longest = if random.once_in(10) { 200 } else { 20 };
         let length = random.below(longest + 1);
-        let start = out.len();
-        for _ in 0..length {
-            // Bytes beside the newline try a search that looks at whole words.
-            let byte = match random.below(4) {
-                0 => random.pick_byte(b"\x09\x0b\x0c\x0d\x8a\x8b\0\xff#"),
-                _ => random.within(32, 126) as u8,
-            };
-            out.push(byte);
-        }
-        if out.get(start) == Some(&b'#') {
-            out[start] = b'/';
-        }
-        out.push(b'\n');
+        leading_line(random, length, &mut out);
     }
     out
+}
+
+/// Leading lines of 4 to 70 KiB together: of one byte, of any short length, or one line alone.
+fn long_preamble(random: &mut Random) -> Vec<u8> {
+    let least = if random.once_in(2) { 60 << 10 } else { 4 << 10 };
+    let total = random.within(least, 70 << 10);
+    let kind = random.below(3);
+    let mut out = Vec::new();
+    while out.len() < total {
+        let length = match kind {
+            0 => 1,
+            1 => random.below(121),
+            _ => total,
+        };
+        leading_line(random, length, &mut out);
+    }
+    out
+}
+
+fn leading_line(random: &mut Random, length: usize, out: &mut Vec<u8>) {
+    let start = out.len();
+    for _ in 0..length {
+        // Bytes beside the newline try a search that looks at whole words.
+        let byte = match random.below(4) {
+            0 => random.pick_byte(b"\x09\x0b\x0c\x0d\x8a\x8b\0\xff#"),
+            _ => random.within(32, 126) as u8,
+        };
+        out.push(byte);
+    }
+    if out.get(start) == Some(&b'#') {
+        out[start] = b'/';
+    }
+    out.push(b'\n');
 }
 
 fn hotspot(random: &mut Random) -> Vec<u8> {

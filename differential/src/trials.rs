@@ -1,6 +1,8 @@
 //! Which texts and buffers are tried: fixed families at the limits first, then drawn ones up to a count.
 
-use crate::comparison::{data_size, Comparison, Difference, Tally, LONGEST_BUFFER, LONGEST_NAME};
+use crate::classes::Reached;
+use crate::comparison::{data_size, Comparison, Difference, Tally, Text};
+use crate::comparison::{LONGEST_BUFFER, LONGEST_NAME};
 use crate::interface::{Interface, StreamDecoder};
 use crate::random::Random;
 use crate::texts::{self, Layout, Mask, TELLING, TOKENS};
@@ -8,14 +10,42 @@ use oracle::{Header, Place, ReadHeader, NAME_BUFFER_LENGTH};
 
 type Tried = Result<(), Difference>;
 
-/// Runs all families, then drawn texts until so many comparisons were made.
-pub fn run(interface: &Interface, seed: u64, count: u64) -> Result<Tally, Difference> {
+/// The seed of a run that names none.
+pub const SEED: u64 = 20_260_924;
+
+/// The drawn comparisons of a run that names no count, and of the gate's.
+pub const COUNT: u64 = 2_000_000;
+
+/// A run without a difference.
+pub struct Run {
+    /// Comparisons of the families.
+    pub families: u64,
+    /// Comparisons of drawn texts.
+    pub drawn: u64,
+    /// The answers of both.
+    pub tally: Tally,
+    /// What the drawn texts reached.
+    pub reached: Reached,
+}
+
+impl Run {
+    /// Numbers that no text led to, and classes that no drawn text was of.
+    pub fn unreached(&self) -> Vec<String> {
+        [self.tally.unreached(), self.reached.unreached()].concat()
+    }
+}
+
+/// Runs all families, then drawn texts until these made so many comparisons.
+pub fn run(interface: &Interface, seed: u64, count: u64) -> Result<Run, Difference> {
     let mut trials = Trials { comparison: Comparison::new(interface), random: Random::new(seed) };
     trials.families()?;
-    while trials.comparison.tally.total() < count {
+    let families = trials.comparison.tally.total();
+    trials.comparison.reached = Reached::default();
+    while trials.comparison.tally.total() < families + count {
         trials.drawn()?;
     }
-    Ok(trials.comparison.tally)
+    let Comparison { tally, reached, .. } = trials.comparison;
+    Ok(Run { families, drawn: tally.total() - families, tally, reached })
 }
 
 /// A dozen sound texts, each with a part that the others lack.
@@ -58,13 +88,13 @@ impl Trials<'_> {
         self.decoders_at_the_limits()
     }
 
-    /// Every cut of the sound texts. The bytes after the cut stay where they are in memory.
+    /// Every cut of the sound texts. The bytes after the cut stand after it in memory.
     fn cuts(&mut self) -> Tried {
         for text in SOUND {
             let whole = self.header(text)?;
             let header = whole.expect("a sound text").header;
             for n in 0..=text.len() {
-                let cut = &text[..n];
+                let cut = Text::cut(text, n);
                 for pixels in lengths(&header) {
                     self.image(cut, pixels)?;
                 }
@@ -133,8 +163,8 @@ impl Trials<'_> {
                     self.main_calls(&text)?;
                     // The text ends with the token.
                     let place = nth_newline(&text, line);
-                    self.main_calls(&text[..place])?;
-                    self.main_calls(&text[..place + 1])?;
+                    self.main_calls(Text::cut(&text, place))?;
+                    self.main_calls(Text::cut(&text, place + 1))?;
                 }
             }
         }
@@ -155,8 +185,9 @@ impl Trials<'_> {
                 let around = symbol.saturating_sub(8)..=symbol + 2;
                 for buffer in around.chain(0..=8).chain([NAME_BUFFER_LENGTH, LONGEST_NAME]) {
                     for cut in [end - 1, end, end + 1, text.len()] {
-                        self.comparison.read_header(&text[..cut], buffer)?;
-                        self.comparison.read_image(&text[..cut], buffer, 9)?;
+                        let cut = Text::cut(&text, cut);
+                        self.comparison.read_header(cut, buffer)?;
+                        self.comparison.read_image(cut, buffer, 9)?;
                     }
                     for byte in *b"\n\t\rz" {
                         let mut ended = text.clone();
@@ -181,7 +212,7 @@ impl Trials<'_> {
                     text.extend_from_slice(SOUND[0]);
                     self.main_calls(&text)?;
                     for cut in 0..=length + 4 {
-                        self.header(&text[..cut])?;
+                        self.header(Text::cut(&text, cut))?;
                     }
                     // No newline at all before the define.
                     let flat: Vec<u8> =
@@ -250,7 +281,7 @@ impl Trials<'_> {
                 self.comparison.next_bytes(&text, decoder, 8)?;
             }
             for cut in header.len() + 8..text.len() {
-                self.image(&text[..cut], 32)?;
+                self.image(Text::cut(&text, cut), 32)?;
             }
         }
         Ok(())
@@ -298,23 +329,38 @@ impl Trials<'_> {
         Ok(())
     }
 
+    /// A long mask, one in a layout of real files, or any text; the first two damaged at times.
     fn drawn(&mut self) -> Tried {
-        let text = drawn_text(&mut self.random);
+        let random = &mut self.random;
+        let mask = match random.below(64) {
+            0 => Some(Mask::long(random)),
+            1..=15 => Some(Mask::real(random)),
+            _ => None,
+        };
+        let Some(mask) = mask else {
+            let text = drawn_text(random);
+            return self.every_call(&text);
+        };
+        let mut text = mask.text(random);
+        if random.once_in(3) {
+            texts::damage(random, &mut text);
+        }
         self.every_call(&text)
     }
 
     /// The header with a name buffer of the original's length.
-    fn header(&mut self, text: &[u8]) -> Result<Option<ReadHeader>, Difference> {
+    fn header<'t>(&mut self, text: impl Into<Text<'t>>) -> Result<Option<ReadHeader>, Difference> {
         self.comparison.read_header(text, NAME_BUFFER_LENGTH)
     }
 
     /// The image with a name buffer of the original's length.
-    fn image(&mut self, text: &[u8], pixel_length: usize) -> Tried {
+    fn image<'t>(&mut self, text: impl Into<Text<'t>>, pixel_length: usize) -> Tried {
         self.comparison.read_image(text, NAME_BUFFER_LENGTH, pixel_length)
     }
 
     /// The header, the image with a drawn pixel buffer, a few data bytes.
-    fn main_calls(&mut self, text: &[u8]) -> Tried {
+    fn main_calls<'t>(&mut self, text: impl Into<Text<'t>>) -> Tried {
+        let text = text.into();
         let read = self.header(text)?;
         let pixels = self.pixel_length(read.map(|read| read.header));
         self.image(text, pixels)?;
@@ -327,11 +373,13 @@ impl Trials<'_> {
     }
 
     /// The main calls, then the same with other name buffers, all data bytes and a lent decoder.
-    fn every_call(&mut self, text: &[u8]) -> Tried {
+    fn every_call<'t>(&mut self, text: impl Into<Text<'t>>) -> Tried {
+        let text = text.into();
         self.main_calls(text)?;
-        let name = match self.random.below(3) {
+        let name = match self.random.below(4) {
             0 => self.random.within(0, 12),
             1 => self.random.within(240, 310),
+            2 => LONGEST_NAME,
             _ => self.random.within(0, 300),
         };
         let read = self.comparison.read_header(text, name)?;
@@ -342,9 +390,11 @@ impl Trials<'_> {
         }
         if let (Some(read), true) = (read, self.random.once_in(8)) {
             let decoder = after_header(&read.header, read.place);
-            self.comparison.next_bytes(text, decoder, usize::MAX)?;
+            // All of a long picture only at times, so that the count is not spent on a few texts.
+            let calls = if self.random.once_in(16) { usize::MAX } else { 200 };
+            self.comparison.next_bytes(text, decoder, calls)?;
         }
-        let decoder = self.decoder(text, header);
+        let decoder = self.decoder(text.bytes(), header);
         let calls = self.random.within(1, 6);
         self.comparison.next_bytes(text, decoder, calls)
     }
@@ -494,45 +544,73 @@ pub fn nth_newline(text: &[u8], line: usize) -> usize {
 #[cfg(test)]
 mod tests {
     use super::*;
-    use crate::interface;
+    use crate::library;
     use crate::mock::{self, Fault};
 
-    /// The seed of the tests.
-    const SEED: u64 = 1;
+    const NONE: [String; 0] = [];
 
     #[test]
     fn original_agrees_with_itself_and_reaches_every_number() {
-        let tally = run(&mock::without_fault(), SEED, 0).unwrap_or_else(|e| panic!("{e}"));
-        assert_eq!(tally.unreached(), Vec::<String>::new(), "{}", tally.summary());
+        let run = run(&mock::without_fault(), SEED, 0).unwrap_or_else(|e| panic!("{e}"));
+        assert_eq!(run.tally.unreached(), NONE, "{}", run.tally.summary());
+        assert_eq!(run.drawn, 0);
     }
 
     #[test]
-    fn drawn_texts_alone_reach_every_number() {
+    fn drawn_texts_alone_reach_every_number_and_class() {
         let interface = mock::without_fault();
         let mut trials =
             Trials { comparison: Comparison::new(&interface), random: Random::new(SEED) };
         for _ in 0..20_000 {
             trials.drawn().unwrap_or_else(|e| panic!("{e}"));
         }
-        let tally = trials.comparison.tally;
-        assert_eq!(tally.unreached(), Vec::<String>::new(), "{}", tally.summary());
+        let Comparison { tally, reached, .. } = trials.comparison;
+        assert_eq!(tally.unreached(), NONE, "{}", tally.summary());
+        assert_eq!(reached.unreached(), NONE, "{}", reached.summary());
+    }
+
+    #[test]
+    fn count_is_of_drawn_comparisons() {
+        let run = run(&mock::without_fault(), SEED, 1000).unwrap_or_else(|e| panic!("{e}"));
+        assert!(run.drawn >= 1000);
+        assert_eq!(run.tally.total(), run.families + run.drawn);
+    }
+
+    /// Without drawn texts nothing is reached, though the families have some of the layouts.
+    #[test]
+    fn families_alone_are_not_enough() {
+        let run = run(&mock::without_fault(), SEED, 0).unwrap_or_else(|e| panic!("{e}"));
+        assert_eq!(run.unreached(), Reached::default().unreached());
+        assert!(!run.unreached().is_empty());
     }
 
     #[test]
     #[cfg_attr(not(has_library), ignore = "skipped: built without the proved reader")]
     fn library_agrees_with_the_original() {
-        let interface = interface::linked().expect("the library is linked");
+        let interface = library::linked().unwrap_or_else(|e| panic!("{e}"));
         run(&interface, SEED, 0).unwrap_or_else(|e| panic!("{e}"));
     }
 
+    /// What the gate's run says of a fault.
+    fn difference(fault: Fault) -> Difference {
+        let Err(difference) = run(&mock::with_fault(fault), SEED, COUNT) else {
+            panic!("{fault:?} passed unseen");
+        };
+        difference
+    }
+
     #[test]
-    fn planted_faults_are_caught() {
-        for fault in Fault::ALL {
-            let caught = run(&mock::with_fault(fault), SEED, 0);
-            let Err(difference) = caught else {
-                panic!("{fault:?} passed unseen");
-            };
-            println!("{fault:?}:\n{difference}");
+    fn faults_in_answers_and_cells_are_caught() {
+        for fault in Fault::ANSWERS {
+            difference(fault);
+        }
+    }
+
+    #[test]
+    fn writes_beside_what_is_lent_are_caught_and_named() {
+        for (fault, said) in Fault::writes() {
+            let difference = difference(fault);
+            assert!(difference.contains(&said), "{fault:?}: no {said:?} in\n{difference}");
         }
     }
 }

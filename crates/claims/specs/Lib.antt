@@ -16,6 +16,8 @@ pub mod Claims
 pub mod Vacuous
 pub mod Listings
 pub mod Masks
-pub mod Program
 pub mod Steps
-pub mod Printed
+pub mod Written
+pub mod Limits
+pub mod Prints
+pub mod Program

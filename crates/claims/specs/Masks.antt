@@ -1,8 +1,8 @@
--- Document 01's masks as rows of one table: a text, the cells lent, what the program prints, the symbol bytes stored, the cells later.
+-- Document 01's masks, and two with a hotspot, as rows of one table: a text, the cells lent, what the program prints, the symbol bytes stored, the cells later.
 use Prim.Native.Nat.{ℕ}
 use Prim.Native.String.{String}
 use mathlib.Core.List.{List, [], _∷_, _++_}
-use lib.ListN.{take, replicate}
+use lib.ListN.{take, drop, replicate}
 use Rattle.text.specs.Ascii.{ascii}
 use Rattle.listing.specs.Listing.{Listed, listed, listing}
 use Rattle.claims.specs.Terms.{over}
@@ -24,6 +24,10 @@ M = ascii "#define d_width 9\n#define d_height 1\nstatic char d_bits[] = {0x01,0
 -- M with another width token
 abbrev token : String → List ℕ
 token w = ascii "#define d_width " ++ ascii w ++ ascii "\n#define d_height 1\nstatic char d_bits[] = {0x01,0x00};\n"
+
+-- M with a hotspot
+abbrev spotted : String → String → List ℕ
+spotted x y = take 37 M ++ ascii "#define d_x_hot " ++ ascii x ++ ascii "\n#define d_y_hot " ++ ascii y ++ ascii "\n" ++ drop 37 M
 
 -- cells lent as 7
 abbrev sevens : ℕ → List ℕ
@@ -53,6 +57,8 @@ table =
     ∷ header (token "0") "refused 21\n" "d_width"
     ∷ header (token "0 z") "refused 1 byte=19,line=1:col=19\n" "d_width"
     ∷ header (token "123456789012") "refused 1 byte=27,line=1:col=27\n" "d_width"
+    ∷ picture (spotted "3" "4") "width 9\nheight 1\nhotspot 3 4\nink 1\n" (0 ∷ replicate 8 255)
+    ∷ picture (spotted "-5" "-2147483648") "width 9\nheight 1\nhotspot -5 -2147483648\nink 1\n" (0 ∷ replicate 8 255)
     ∷ []
 
 -- what a row wants, and what the listing gives

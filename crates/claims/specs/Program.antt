@@ -1,14 +1,15 @@
 -- THE CLAIMS ON THE PROGRAM: what it prints for document 01's masks, and of every accepted text and its cuts. To believe them, read Listing
 -- (what is printed of a text, with the limits) beside what Claims names, and this file. Every proof below is a citation or a computation.
 use mathlib.Core.Path.{_≡_, refl, ap, _∙_, sym}
-use Prim.Native.Nat.{ℕ, _≤_, _<_}
-use mathlib.Core.List.{List, [], map}
-use lib.ListN.{length, take}
+use mathlib.Core.Logic.{_↔_}
+use Prim.Native.Nat.{ℕ, _*_, _≤_, _<_}
+use mathlib.Core.List.{List, [], _++_, map}
+use lib.ListN.{length, take, drop}
 use Rattle.text.specs.declared.TextLocation.{TextLocation}
 use Rattle.text.specs.Place.{byteOf, start, past, after, rest}
 use Rattle.text.specs.Reader.{_>>=_}
 use Rattle.text.specs.Leaf.{give, want, need, one, run, fork, eot}
-use Rattle.text.specs.Outcome.{refused}
+use Rattle.text.specs.Outcome.{refused, unplaced}
 use Rattle.lexical.specs.Lexical.{isBlank, isLoose, byte, skip, fixed, gap, lineEnd, leading}
 use Rattle.lexical.specs.Token.{token, span}
 use Rattle.lexical.specs.Hex.{hexOf, hexv, hexDigit, isMark, hexStart, hexDigits, hexUnit}
@@ -21,11 +22,14 @@ use Rattle.image.specs.Rows.{whole}
 use Rattle.image.specs.Reading.{picture, reading}
 use Rattle.print.specs.Decimal.{digits}
 use Rattle.print.specs.Output.{joined}
-use Rattle.listing.specs.Listing.{textLimit, cellLimit, cellsOf, inkOf, acceptedText, printed, afterHeader, listed, listing}
-use Rattle.grammar.specs.Grammar.{Mask, Format}
-use Rattle.claims.specs.Terms.{headOf, Last}
+use Rattle.listing.specs.Listing.{cellsOf, inkOf, acceptedText, printed, Listed, afterHeader, listed, listing}
+use Rattle.grammar.specs.Grammar.{Mask, Header, Format}
+use Rattle.claims.specs.Terms.{headOf, Last, Begun, Lines}
+use Rattle.listing.specs.Sizes
 use Rattle.claims.specs.Listings
 use Rattle.claims.specs.Masks.{table, given, wanted}
+use Rattle.claims.specs.Limits as Limit
+use Rattle.claims.specs.Prints
 
 -- 1. MASKS. Each of document 01's masks, as a row of the table: what is printed, the name buffer and the cells, by computing.
 pub masks : map given table ≡ map wanted table
@@ -45,7 +49,8 @@ pub record Shown (text name cells : List ℕ) (m : Mask) (n : ℕ) : Type 0 wher
   -- with it they print what the whole prints
   pub late : semicolon < n → listing (take n text) name cells ≡ listing text name cells
 
-pub lists : (text name cells : List ℕ) (m : Mask) (n : ℕ) → Format (length name) m text → length text ≤ textLimit → cellsOf (headOf m) ≤ cellLimit → cellsOf (headOf m) ≤ length cells → n ≤ length text
+pub lists : (text name cells : List ℕ) (m : Mask) (n : ℕ) → Format (length name) m text
+    → length text ≤ 65536 → m .width * m .height ≤ 65536 → m .width * m .height ≤ length cells → n ≤ length text
     → Shown text name cells m n
 lists t name cells m n f short small room h = record {
   lines = Listings.whole-lines t name cells m f short small room;
@@ -54,3 +59,40 @@ lists t name cells m n f short small room h = record {
   early = Listings.early t name cells m f short small room n h;
   late = Listings.late t name cells m f short small room n h;
 }
+
+-- 3. LIMITS. A text of more than 65,536 bytes is refused with 41, read or not; a header of more than 65,536 cells with 42. Else the listing is the reading's.
+pub record Limits (text name cells : List ℕ) (list : Listed) : Type 0 where
+  pub long : (list .told ≡ unplaced 41) ↔ (65536 < length text)
+  pub large : (list .told ≡ unplaced 42)
+      ↔ ((length text ≤ 65536) × ((m : Mask) × Begun (Header (length name) m) text × (65536 < m .width * m .height)))
+  -- 41 leaves both buffers as lent, 42 the cells; the name buffer then holds what any reading leaves there
+  pub unread : 65536 < length text → (list .symbol ≡ name) × (list .cells ≡ cells)
+  pub unpictured : length text ≤ 65536 → (m : Mask) → Begun (Header (length name) m) text → 65536 < m .width * m .height
+      → (list .symbol ≡ reading text name cells .symbol) × (list .cells ≡ cells)
+  -- a header within the limits: the reading into the first width times height cells, the others as lent
+  pub read : length text ≤ 65536 → (m : Mask) → Begun (Header (length name) m) text → m .width * m .height ≤ 65536
+      → (list .told ≡ reading text name (take (m .width * m .height) cells) .answer)
+      × (list .symbol ≡ reading text name (take (m .width * m .height) cells) .symbol)
+      × (list .cells ≡ reading text name (take (m .width * m .height) cells) .pixels ++ drop (m .width * m .height) cells)
+  -- no header: what every reading tells of it
+  pub headless : length text ≤ 65536 → ((m : Mask) → Begun (Header (length name) m) text → ⊥) → (pixels : List ℕ)
+      → (list .told ≡ reading text name pixels .answer) × (list .symbol ≡ reading text name pixels .symbol) × (list .cells ≡ cells)
+
+pub limits : (text name cells : List ℕ) → Limits text name cells (listed text name cells)
+limits t name cells = record {
+  long = Limit.too-long t name cells;
+  large = Limit.too-large t name cells;
+  unread = Limit.long-buffers t name cells;
+  unpictured = Limit.large-buffers t name cells;
+  read = Limit.read-so t name cells;
+  headless = Limit.headless-so t name cells;
+}
+
+-- 4. LINES. What is printed of any text is a word of the lines of its answer: words as quoted, each number in the grammar's decimal (no leading zero),
+-- a negative one with `-` in front, x before y.
+pub prints : (text name cells : List ℕ) → Lines (listed text name cells .told) (listed text name cells .ink) (listing text name cells)
+prints = Prints.prints
+
+-- 5. SIZE. A listing has at most 133 bytes, so that an output of as many holds every one whole.
+pub short : (text name cells : List ℕ) → length (listing text name cells) ≤ 133
+short = Sizes.listing-short

@@ -2,14 +2,16 @@
 use mathlib.Core.Path.{_≡_}
 use mathlib.Core.Logic.{_↔_, _⊎_}
 use Prim.Native.Nat.{ℕ, suc, _+_, _*_, _/_, _%_, _^_, _≤_, _<_}
-use mathlib.Core.Option.{Option, some}
+use Prim.Native.String.{String}
+use mathlib.Core.Option.{Option, none, some}
 use mathlib.Core.List.{List, _++_}
 use lib.ListN.{length, take, drop, getElem?}
+use lib.IntN.{ℤ}
 use Rattle.text.specs.Ascii.{ascii}
 use Rattle.text.specs.Outcome.{Outcome, accepted, refused, unplaced}
 use Rattle.header.specs.Header.{Head}
 use Rattle.grammar.specs.Lang.{Lang, Lit, _·_, Star}
-use Rattle.grammar.specs.Grammar.{Mask, Gap, Skipped, Header, Byte, Data, Format}
+use Rattle.grammar.specs.Grammar.{Mask, Gap, Decimal, Coordinate, Skipped, Header, Byte, Data, Format}
 
 -- a mask without its data bytes
 abbrev pub headOf : Mask → Head
@@ -84,3 +86,20 @@ Opening = Star Skipped · Lit "#define" · Gap
 -- a buffer that begins with w and then is as lent
 abbrev pub over : List ℕ → List ℕ → List ℕ
 over w lent = w ++ drop (length w) lent
+
+-- ---- what the program prints
+
+-- a quoted word and a number
+abbrev pub Field : String → ℕ → Lang
+Field s n = Lit s · Decimal n
+
+-- a hotspot: two numbers, or -1 -1 where there is none
+abbrev pub HotWords : Option (ℤ × ℤ) → Lang
+HotWords none = Lit "-1 -1"
+HotWords (some (x, y)) = Coordinate x · Lit " " · Coordinate y
+
+-- the lines of an answer, with the ink where it is accepted
+abbrev pub Lines : Outcome Head → ℕ → Lang
+Lines (accepted h) ink = (Field "width " (h .width) · Field "\nheight " (h .height)) · (Lit "\nhotspot " · HotWords (h .hot)) · (Field "\nink " ink · Lit "\n")
+Lines (refused c p) ink = Field "refused " c · (Field " byte=" (p .byte .0) · Field ",line=" (p .line .0) · Field ":col=" (p .column .0)) · Lit "\n"
+Lines (unplaced c) ink = Field "refused " c · Lit "\n"

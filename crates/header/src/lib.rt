@@ -2,6 +2,7 @@
 ghost use mathlib.Core.Bool.{true};
 ghost use mathlib.Core.Path.{_≡_};
 ghost use Prim.Native.Nat.{_+_};
+ghost use lib.ListN.{length};
 ghost use Rattle.text.specs.Place.{start};
 ghost use Rattle.text.specs.Reader.{shown};
 ghost use Rattle.text.specs.Leaf.{give};
@@ -30,6 +31,13 @@ use text::take;
 
 // A limit on the length of a #define symbol (name and `_width`), for callers that have no other: the name buffer's length is the limit.
 pub const MAX_IDENTIFIER_LENGTH: usize = 256;
+
+// A name buffer for such callers, of document 01's 256 bytes.
+pub fn name_buffer() -> [u8; MAX_IDENTIFIER_LENGTH]
+    ensures { λ r. ⌜ length r ≡ 256 ⌝ }
+{
+    [0u8; MAX_IDENTIFIER_LENGTH]
+}
 
 // Error that can occur while parsing an XBM file.
 pub enum XbmDecodeError {

@@ -40,7 +40,7 @@ use Rattle.image.specs.declared.ImageRead.{ImageRead}
 use Rattle.image.specs.declared.ImageRead.the-variants.{Read, Refused as ImageRefused, DimensionMismatch}
 use Rattle.image.specs.declared.ImageAnswer.{ImageAnswer}
 use Rattle.image.specs.Reading.{Reading, reading, toldImage, toldReading, Imaged}
-use Rattle.print.specs.Output.{Output, output, puts, joined, puts-append, puts-within}
+use Rattle.print.specs.Output.{Output, output, puts, joined, puts-append}
 use Rattle.print.specs.Decimal.{signed}
 use Rattle.print.proofs.Laws.{joined·laws}
 use Rattle.listing.specs.declared.ListAnswer.{ListAnswer}
@@ -249,13 +249,3 @@ below a b h k = omega (arith, mul-le-mul-right b (le-of-lt h))
 
 pub count-fits : (w h : ℕ) → w < 2 ^ 32 → h < 2 ^ 32 → Fits w64 (w * h)
 count-fits w h a b = record { fits = below w h a b }
-
--- what is listed stays within the output
-pub list-within : (text name cells out name′ cells′ : List ℕ) {out′ : List ℕ} {n : ℕ} → Lists text name cells out name′ cells′ out′ n → n ≤ length out′
-list-within text name cells out name′ cells′ {out′} {n} k = go (output out′ n) (k .prints)
-  where
-    go : (o : Output) → o ≡ puts (listing text name cells) (output out 0) → o .at ≤ length (o .bytes)
-    go o e = rw e (puts-within (listing text name cells) (output out 0) (omega arith))
-
-pub listed-size : (text name cells out name′ cells′ : List ℕ) {out′ : List ℕ} {n : ℕ} → Lists text name cells out name′ cells′ out′ n → n ≡ length (take n out′)
-listed-size text name cells out name′ cells′ {out′} {n} k = omega (arith, list-within text name cells out name′ cells′ k, length-take n out′)

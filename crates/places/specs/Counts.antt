@@ -1,52 +1,66 @@
--- The place past a word, as counts: its bytes, its newlines, the bytes after the last newline.
-use mathlib.Core.Path.{_≡_, refl, sym, ap, _∙_}
+-- A place past some bytes, as counts of bytes, newlines and bytes since the last newline.
+use mathlib.Core.Path.{_≡_, refl, ap, _∙_}
 use mathlib.Core.Logic.{_⊎_, inl, inr}
-use Prim.Native.Nat.{ℕ, _+_, _-_, _≤_, _<_}
+use Prim.Native.Nat.{ℕ, _+_, _≤_, min}
 use native.Mathlib.Omega.{arith}
 use mathlib.Core.Bool.{Bool, true, false, not}
-use mathlib.Core.List.{List, [], _∷_, _++_, append-nil}
-use lib.ListN.{length, take}
-use lib.Seq.{take-all}
+use mathlib.Core.List.{List, [], _∷_, _++_}
+use lib.ListN.{length}
 use lib.Dec.{eqb}
-use borrow.Author.Tests.{not-true}
+use borrow.Author.Tests.{not-true, eqb-true}
 use Rattle.text.specs.declared.TextLocation.{TextLocation}
-use Rattle.text.specs.Place.{pick, byteOf, after, start, past}
-use Rattle.text.specs.Rest.{newlines, line-counts}
+use Rattle.text.specs.Ascii.{ascii}
+use Rattle.text.specs.Place.{pick, after, start, past}
+use Rattle.text.specs.Rest.{newlines}
 use Rattle.grammar.specs.Lang.{All}
 use Rattle.grammar.specs.Bind.{past-append, past-byte}
-use Rattle.claims.specs.Cuts.{walk-past}
+use Rattle.places.specs.Terms.{Counted}
 
--- no newline in it
-abbrev pub Line : List ℕ → Type 0
-Line l = All (λ b. not (eqb b 10)) l
+-- the line: 2 ^ 64 - 1 stays
+lined : (d : Bool) (l n m : ℕ) → l ≤ m → min (pick d (min (l + 1) m) l + n) m ≡ min (l + (pick d 1 0 + n)) m
+lined true l n m h = omega arith
+lined false l n m h = omega arith
 
-plain : (p : TextLocation) (l : List ℕ) → Line l → past p l .column .0 ≡ p .column .0 + length l
+room : (d : Bool) (l m : ℕ) → l ≤ m → pick d (min (l + 1) m) l ≤ m
+room true l m h = omega arith
+room false l m h = omega arith
+
+past-line : (p : TextLocation) (w : List ℕ) → p .line .0 ≤ 18446744073709551615 → past p w .line .0 ≡ min (p .line .0 + newlines w) 18446744073709551615
 unfolding after
-plain p [] h = omega arith
-plain p (b ∷ l) (h, k) = plain (after b p) l k ∙ rw (not-true (eqb b 10) h) (omega arith)
+past-line p [] h = omega arith
+past-line p (b ∷ w) h = past-line (after b p) w (room (eqb b 10) (p .line .0) 18446744073709551615 h) ∙ lined (eqb b 10) (p .line .0) (newlines w) 18446744073709551615 h
 
--- a word u ++ l, where l has no newline and u is empty or ends in one
-pub record Counted (u l : List ℕ) (p : TextLocation) : Type 0 where
-  pub byte : p .byte .0 ≡ length (u ++ l)
-  pub line : p .line .0 ≡ 1 + newlines (u ++ l)
-  pub column : p .column .0 ≡ length l
-
-pub counted : (u l : List ℕ) → Line l → (u ≡ []) ⊎ ((v : List ℕ) × (u ≡ v ++ (10 ∷ []))) → length (u ++ l) < 18446744073709551615 → Counted u l (past start (u ++ l))
+-- the column: no newline starts it again
+past-column : (p : TextLocation) (l : List ℕ) → All (λ b. not (eqb b 10)) l → past p l .column .0 ≡ p .column .0 + length l
 unfolding after
-counted u l h k n = record {
-  byte = past-byte start (u ++ l) ∙ omega arith;
-  line = lines;
-  column = ap (λ (p : TextLocation). p .column .0) (past-append start u l) ∙ plain (past start u) l h ∙ omega (arith, zero-column k);
+past-column p [] h = omega arith
+past-column p (b ∷ l) (h, k) = past-column (after b p) l k ∙ rw (not-true (eqb b 10) h) (omega arith)
+
+-- the bytes up to the last newline, and those after it
+abbrev Split : List ℕ → Type 0
+Split w = (u : List ℕ) × (l : List ℕ) × (w ≡ u ++ l) × ((u ≡ []) ⊎ ((v : List ℕ) × (u ≡ v ++ ascii "\n"))) × All (λ b. not (eqb b 10)) l
+
+split : (w : List ℕ) → Split w
+split [] = ([], [], refl, inl refl, tt)
+split (b ∷ w) = let (u, l, q, e, a) = split w in go (eqb b 10) refl u l q e a
+  where
+    go : (d : Bool) → eqb b 10 ≡ d → (u l : List ℕ) → w ≡ u ++ l → (u ≡ []) ⊎ ((v : List ℕ) × (u ≡ v ++ ascii "\n")) → All (λ b. not (eqb b 10)) l → Split (b ∷ w)
+    go d z u l q (inr (v, e)) a = (b ∷ u, l, ap (λ (x : List ℕ). b ∷ x) q, inr (b ∷ v, ap (λ (x : List ℕ). b ∷ x) e), a)
+    go true z u l q (inl e) a = (b ∷ [], l, ap (λ (x : List ℕ). b ∷ x) (q ∙ ap (λ (x : List ℕ). x ++ l) e), inr ([], ap (λ (x : ℕ). x ∷ []) (eqb-true b 10 z)), a)
+    go false z u l q (inl e) a = ([], b ∷ l, ap (λ (x : List ℕ). b ∷ x) (q ∙ ap (λ (x : List ℕ). x ++ l) e), inl refl, (ap not z, a))
+
+pub counted : (w : List ℕ) → Counted w (past start w)
+counted w = let (u, l, q, e, a) = split w in record {
+  whole = u;
+  begun = l;
+  split = q;
+  lines = e;
+  plain = a;
+  byte = past-byte start w ∙ omega arith;
+  line = past-line start w (omega arith);
+  column = ap (λ (x : List ℕ). past start x .column .0) q ∙ ap (λ (p : TextLocation). p .column .0) (past-append start u l) ∙ past-column (past start u) l a ∙ ap (λ (n : ℕ). n + length l) (fresh u e) ∙ omega arith;
 }
   where
-    whole : take (byteOf (past start (u ++ l)) - 0) ((u ++ l) ++ []) ≡ u ++ l
-    whole = rw (append-nil (u ++ l)) (take-all (byteOf (past start (u ++ l)) - 0) (u ++ l) (omega (arith, past-byte start (u ++ l))))
-
-    lines : past start (u ++ l) .line .0 ≡ 1 + newlines (u ++ l)
-    lines =
-        line-counts (walk-past (u ++ l) [] start) (rw (append-nil (u ++ l)) (omega arith))
-        ∙ ap (λ (w : List ℕ). 1 + newlines w) whole
-
-    zero-column : (u ≡ []) ⊎ ((v : List ℕ) × (u ≡ v ++ (10 ∷ []))) → past start u .column .0 ≡ 0
-    zero-column (inl e) = rw e
-    zero-column (inr (v, e)) = rw (e, past-append start v (10 ∷ []))
+    fresh : (u : List ℕ) → (u ≡ []) ⊎ ((v : List ℕ) × (u ≡ v ++ ascii "\n")) → past start u .column .0 ≡ 0
+    fresh u (inl e) = rw e
+    fresh u (inr (v, e)) = unfold after in (rw (e, past-append start v (ascii "\n")))

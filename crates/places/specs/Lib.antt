@@ -1,6 +1,12 @@
 -- The definitions and laws of `places`, by module.
+pub mod Terms
 pub mod Counts
-pub mod Tells
+pub mod Sharp
+pub mod Looks
+pub mod Looking
+pub mod Telling
+pub mod Places
+pub mod Vacuous
 pub mod Savable
 pub mod Saving
 pub mod SavingLeaves

@@ -24,7 +24,7 @@ use Rattle.grammar.specs.Lines.{hot-fits}
 use Rattle.grammar.specs.Headers.{header-exactly}
 use Rattle.claims.specs.Terms.{Begun}
 use Rattle.claims.specs.Numbers.{Numbered, numbers, placed-number, unplaced-number}
-use Rattle.refusals.specs.Terms.{Sides, Fourth, No, Placed}
+use Rattle.refusals.specs.Terms.{NoArrayLine, Placed, No}
 use Rattle.refusals.specs.Stages.{both-ways, given, chain, at-parts, read-at, later-stop, begun}
 use Rattle.refusals.specs.Lines.{define-begins}
 use Rattle.refusals.specs.HeaderRows.{told-stop, first}
@@ -106,9 +106,6 @@ module _ (text name pixels : List ℕ) where
   after-spot : (a : Three) (i : TextLocation) → At (Both lim a) Any text start i → Next 35 (restAt text i) → header lim text start ≡ (fourth lim >>= done) text start
   after-spot a i k n = after-sides a i k ∙ hashed a text i n ∙ sym (bind-ok (second lim) hot text start a i (read-at (second-fits lim a) text start i .1 (tt, k))) ∙ ap (λ (r : Reader Head). r text start) (fourth-hot lim)
 
-  abbrev Why5 : Type 0
-  Why5 = (m : Mask) × No (Header lim m) text × (((m .hot ≡ none) × Begun (Sides lim m) text × No (Sides lim m · Lit "#") text) ⊎ ((x : ℤ) × (y : ℤ) × (m .hot ≡ some (x, y)) × Begun (Fourth lim m x (Coordinate y)) text))
-
   no-header : Read5 → (m : Mask) → No (Header lim m) text
   no-header (q, x) m b = let (e, u) = stood m b in let z : _≡_ {A = ℕ} 0 1 = cc in omega arith
 
@@ -116,16 +113,16 @@ module _ (text name pixels : List ℕ) where
   abbrev spotted : Five → Mask
   spotted c = record { name = c .0 .0 .0 .0; width = c .0 .0 .0 .1; height = c .0 .0 .1; hot = some (c .0 .1, c .1); bytes = [] }
 
-  why : Read5 → Why5
+  why : Read5 → NoArrayLine lim text
   why r = let (a, i, k, x) = later-stop (second lim) further (Both lim) (second-fits lim) 5 text start (second-numbered lim) (λ a b. omega arith) .0 (rw (header-second lim) at r) in go a i k (is-next 35 (restAt text i))
     where
-      go : (a : Three) (i : TextLocation) → At (Both lim a) Any text start i → Dec (Next 35 (restAt text i)) → Why5
+      go : (a : Three) (i : TextLocation) → At (Both lim a) Any text start i → Dec (Next 35 (restAt text i)) → NoArrayLine lim text
       go a i k (no n) = (maskOf a, no-header r (maskOf a), inl (refl, begun (Both lim a) text .0 (i, k), λ b. n (hash text name pixels a i k .1 b)))
       go a i k (yes n) =
           let (c, e, l, x) = later-stop (fourth lim) done (Spotted lim) (fourth-fits lim) 5 text start (fourth-numbered lim) (λ a b. omega arith) .0 (r .0, sym (after-spot a i k n) ∙ r .1) in
           (spotted c, no-header r (spotted c), inr (c .0 .1, c .1, refl, begun (Spotted lim c) text .0 (e, l)))
 
-  so : Why5 → Read5
+  so : NoArrayLine lim text → Read5
   unfolding Any
   so (m, g, inl (h, b, n)) = let (i, k) = begun (Both lim (threeOf m)) text .1 b in other i k (unhashed (threeOf m) text i (λ x. n (hash text name pixels (threeOf m) i k .0 x)))
     where
@@ -140,5 +137,5 @@ module _ (text name pixels : List ℕ) where
       let s : Begins (Next 35) (Define (Word (m .name ++ ascii "_x_hot")) (Coordinate x)) Any = define-begins _ _ in
       either m g e (after-spot (threeOf m) i k (rw d (s .begins w r z tt)) ∙ bind-ok (fourth lim) done text start c e (read-at (fourth-fits lim c) text start e .1 (tt, l)) ∙ ap (λ (o : Option (ℤ × ℤ)). ending (m .name) (m .width) (m .height) o text e) (sym h))
 
-  pub row-5 : Placed (reading text name pixels .answer) 5 ↔ Why5
+  pub row-5 : Placed (reading text name pixels .answer) 5 ↔ NoArrayLine lim text
   row-5 = both-ways (told-stop text name pixels 5 (omega arith)) (why, so)

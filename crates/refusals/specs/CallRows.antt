@@ -178,11 +178,11 @@ module _ (t : List ℕ) (d : XbmStreamDecoder) (h : Foreign t d → ⊥) where
   unfolding trailer
   row-8 = (
     (λ (p, q). (let (l, s) = not-byte 8 (omega arith) p q in let (a, m, r, x) = stop-second closing (λ a. tail) 8 t here closes (λ x y. omega arith) .0 (p, s) in
-      (l, stands closing-fits .0 (m, r), λ w. (let (e, y) = whole .1 w in let z : _≡_ {A = ℕ} 0 1 = cc in omega arith)))),
+        (l, stands closing-fits .0 (m, r), λ w. (let (e, y) = whole .1 w in let z : _≡_ {A = ℕ} 0 1 = cc in omega arith)))),
     λ (l, b, g). (let (m, r) = stands closing-fits .1 b in
-      let x : (q : TextLocation) × (tail t m ≡ stop 8 q) = alone 8 t m follows .1 (λ a e y. g (whole .0 (e, bind-ok closing (λ a. tail) t here tt m r ∙ y))) in
-      let (p, s) = stop-second closing (λ a. tail) 8 t here closes (λ x y. omega arith) .1 (tt, m, r, x) in
-      (p, last l ∙ stopped (λ u. none) (trailer t here) 8 p .1 s)),
+        let x : (q : TextLocation) × (tail t m ≡ stop 8 q) = alone 8 t m follows .1 (λ a e y. g (whole .0 (e, bind-ok closing (λ a. tail) t here tt m r ∙ y))) in
+        let (p, s) = stop-second closing (λ a. tail) 8 t here closes (λ x y. omega arith) .1 (tt, m, r, x) in
+        (p, last l ∙ stopped (λ u. none) (trailer t here) 8 p .1 s)),
   )
 
   -- ---- where a refusal is told

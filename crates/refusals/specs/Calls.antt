@@ -1,6 +1,6 @@
 -- Calls for the next data byte, on any decoder: which are foreign, where a refused call leaves the decoder, what a call after the end gives.
 use mathlib.Core.Path.{_≡_, refl, sym, ap, _∙_}
-use mathlib.Core.Logic.{_↔_}
+use mathlib.Core.Logic.{_↔_, inl, inr}
 use Prim.Native.Nat.{ℕ, _+_, _*_, _/_, _≤_, _<_}
 use native.Mathlib.Omega.{arith}
 use native.Mathlib.Decide.{decLt}
@@ -23,7 +23,7 @@ use Rattle.decoder.specs.Step.{bytesOf, foreign, more, called, spent, placedAt,
 use Rattle.grammar.specs.Bind.{bind-case, bind-ok, bind-stop}
 use Rattle.claims.specs.Numbers.{Numbered, bind-numbered, give-numbered, item-numbered, trailer-numbered, unplaced-number}
 use Rattle.claims.specs.Steps.{Native, not-foreign, sizeOf, next-answer, last-answer}
-use Rattle.refusals.specs.Terms.{Foreign, no-width, no-height, position, byte, column, line}
+use Rattle.refusals.specs.Terms.{moved, Spent, Foreign, no-width, no-height, position, byte, column, line}
 
 pub foreign-exactly : (t : List ℕ) (d : XbmStreamDecoder) → (foreign t d ≡ true) ↔ Foreign t d
 unfolding foreign
@@ -75,21 +75,19 @@ unfolding stepOf
 unchanged t d h = rw (foreign-exactly t d .1 h)
 
 -- a refused call has spent its data byte, if one was left, and stands at the place told
-pub goes-on : (t : List ℕ) (d : XbmStreamDecoder) (c : ℕ) (p : TextLocation) → stepOf t d .answer ≡ refused c p
-    → (d .«current_position» < (d .width + 7) / 8 * d .height → stepOf t d .decoder ≡ placedAt d (d .«current_position» + 1) p)
-    × ((d .width + 7) / 8 * d .height ≤ d .«current_position» → stepOf t d .decoder ≡ placedAt d (d .«current_position») p)
+pub goes-on : (t : List ℕ) (d : XbmStreamDecoder) (c : ℕ) (p : TextLocation) → stepOf t d .answer ≡ refused c p → (k : ℕ) × Spent d k × (stepOf t d .decoder ≡ moved d k p)
 unfolding stepOf
 goes-on t d c p = go (foreign t d) (called d t (d .location))
   where
-    go : (f : Bool) (r : Result (Option ℕ)) → pick f (unplaced 9) (outcome (λ b. b) r) ≡ refused c p
-        → (d .«current_position» < (d .width + 7) / 8 * d .height → pick f d (placedAt d (spent d) (endOf r)) ≡ placedAt d (d .«current_position» + 1) p)
-        × ((d .width + 7) / 8 * d .height ≤ d .«current_position» → pick f d (placedAt d (spent d) (endOf r)) ≡ placedAt d (d .«current_position») p)
+    more-or-not : Dec (d .«current_position» < sizeOf d) → Spent d (spent d)
+    more-or-not (yes l) = inl (l, rw (lt-ltb (d .«current_position») (sizeOf d) l))
+    more-or-not (no l) = inr (omega arith, rw (le-ltb (d .«current_position») (sizeOf d) (omega arith)))
+
+    go : (f : Bool) (r : Result (Option ℕ)) → pick f (unplaced 9) (outcome (λ b. b) r) ≡ refused c p → (k : ℕ) × Spent d k × (pick f d (placedAt d (spent d) (endOf r)) ≡ moved d k p)
     go true r q = let z : _≡_ {A = ℕ} 0 1 = cc in absurd (omega arith)
     go false (ok a e) q = let z : _≡_ {A = ℕ} 0 1 = cc in absurd (omega arith)
     go false (bad x e) q = let z : _≡_ {A = ℕ} 0 1 = cc in absurd (omega arith)
-    go false (stop x e) q =
-        let z : e ≡ p = cc in
-        ((λ l. rw (z, lt-ltb (d .«current_position») ((d .width + 7) / 8 * d .height) l)), λ l. rw (z, le-ltb (d .«current_position») ((d .width + 7) / 8 * d .height) l))
+    go false (stop x e) q = let z : e ≡ p = cc in (spent d, more-or-not (decLt (d .«current_position») (sizeOf d)), ap (moved d (spent d)) z)
 
 -- ---- after the end
 

@@ -31,7 +31,7 @@ use Rattle.claims.specs.Numbers.{Numbered, numbers, bind-numbered, give-numbere
 use Rattle.claims.specs.Symbol.{lead}
 use Rattle.claims.specs.Mismatch.{apart, joined, zero-test, whole-few}
 use Rattle.refusals.specs.Ends.{Whole, seven, eight, whole-of}
-use Rattle.refusals.specs.Terms.{No, Placed, Wanted}
+use Rattle.refusals.specs.Terms.{NoDataByte, NoClosing, MoreBehind, No, Placed}
 use Rattle.refusals.specs.Stages.{both-ways, assoc, stop-first, stop-second, alone, at-both, at-parts, read-at, begun}
 
 -- ---- the trailer
@@ -50,7 +50,7 @@ module _ (text name pixels : List ℕ) where
   abbrev stand : (m : Mask) → m .height ≤ rows m pixels → length (m .bytes) ≡ W m * m .height → (u r : List ℕ) → text ≡ u ++ r → (Header lim m · Data (m .bytes)) u → Whole lim text pixels u m
   stand m l e u r q k = record { bytes = e; enough = l; stands = k; rest = r; split = q }
 
-  pub row-7 : Placed (reading text name pixels .answer) 7 ↔ ((m : Mask) × (m .height ≤ rows m pixels) × (length (m .bytes) ≡ W m * m .height) × Begun (Header lim m · Data (m .bytes)) text × No (Header lim m · Data (m .bytes) · Closing) text)
+  pub row-7 : Placed (reading text name pixels .answer) 7 ↔ NoClosing lim text pixels
   unfolding _·_
   row-7 = (
     (λ (p, x). (let (m, u, w) = whole-of text name pixels 7 p x (omega arith) in (
@@ -64,7 +64,7 @@ module _ (text name pixels : List ℕ) where
     λ (m, l, e, (u, r, q, k), g). seven text name pixels m u (stand m l e u r q k) .1 (λ (c, v, s, z). (let (a, b, o, h, d) = k in g (u ++ c, v, q ∙ ap (λ (x : List ℕ). u ++ x) s ∙ sym (append-assoc u c v), (a, b ++ c, ap (λ (y : List ℕ). y ++ c) o ∙ append-assoc a b c, h, (b, c, refl, d, z))))),
   )
 
-  pub row-8 : Placed (reading text name pixels .answer) 8 ↔ ((m : Mask) × (m .height ≤ rows m pixels) × (length (m .bytes) ≡ W m * m .height) × Begun (Header lim m · Data (m .bytes) · Closing) text × (Format lim m text → ⊥))
+  pub row-8 : Placed (reading text name pixels .answer) 8 ↔ MoreBehind lim text pixels
   unfolding _·_ Format
   row-8 = (
     (λ (p, x). (let (m, u, w) = whole-of text name pixels 8 p x (omega arith) in let ((c, v, s, k), g) = eight text name pixels m u w .0 (p, x) in let (a, b, o, h, d) = w .stands in (
@@ -198,19 +198,16 @@ module _ (text name pixels : List ℕ) where
           let o2 : items (suc (length (m .bytes))) true text e ≡ ok (m .bytes ++ b ∷ []) j = o ∙ ap (λ (x : List ℕ). ok (x ++ b ∷ []) j) y in
           g b (begun (Header limit m · Data (m .bytes ++ (b ∷ []))) text .0 (j, at-both (Header limit m) (Data (m .bytes ++ (b ∷ []))) text start e j (header-exactly limit m text start e .0 u) (data-fits (suc (length (m .bytes))) (m .bytes ++ (b ∷ [])) .to text e j o2 .1)))
 
-  abbrev Why6 : Type 0
-  Why6 = (m : Mask) × Wanted m pixels (length (m .bytes)) × Begun (Header limit m · Data (m .bytes)) text × More m
-
-  pub row-6 : Placed (reading text name pixels .answer) 6 ↔ Why6
+  pub row-6 : Placed (reading text name pixels .answer) 6 ↔ NoDataByte limit text pixels
   row-6 = both-ways told-6 (there, back)
     where
-      there : (h : Head) × (e : TextLocation) × (header limit text start ≡ ok h e) × ((q : TextLocation) × (whole (h .width) (h .height) (length pixels) text e ≡ stop 6 q)) → Why6
+      there : (h : Head) × (e : TextLocation) × (header limit text start ≡ ok h e) × ((q : TextLocation) × (whole (h .width) (h .height) (length pixels) text e ≡ stop 6 q)) → NoDataByte limit text pixels
       there (h, e, u, x) = go (decLt (length pixels / h .width) (h .height))
         where
           wide : 0 < h .width
           wide = lead limit text (made h []) (begun (Header limit (made h [])) text .0 (e, header-exactly limit (made h []) text start e .0 u)) .positive
 
-          go : Dec (length pixels / h .width < h .height) → Why6
+          go : Dec (length pixels / h .width < h .height) → NoDataByte limit text pixels
           go (yes r) =
               let (l, f, k, v, g) = find text e (suc (rowBytes (h .width) * (length pixels / h .width))) (whole-6-few text e (h .width) (h .height) (length pixels) r .0 x) in
               let o : rowBytes (h .width) * suc (length pixels / h .width) ≤ rowBytes (h .width) * h .height = mul-le-mul-left (rowBytes (h .width)) r in
@@ -222,7 +219,7 @@ module _ (text name pixels : List ℕ) where
               let o : rowBytes (h .width) * h .height ≤ rowBytes (h .width) * (length pixels / h .width) = mul-le-mul-left (rowBytes (h .width)) s in
               (made h l, (k, omega arith), both-at (made h l) e f u v, no-more (made h l) e f u v .0 g)
 
-      back : Why6 → (h : Head) × (e : TextLocation) × (header limit text start ≡ ok h e) × ((q : TextLocation) × (whole (h .width) (h .height) (length pixels) text e ≡ stop 6 q))
+      back : NoDataByte limit text pixels → (h : Head) × (e : TextLocation) × (header limit text start ≡ ok h e) × ((q : TextLocation) × (whole (h .width) (h .height) (length pixels) text e ≡ stop 6 q))
       back (m, (a, b), k, g) = let (e, f, u, v) = both-read m (m .bytes) k in (headOf m, e, u, go e (no-more m e f u v .1 g) (decLt (rows m pixels) (m .height)))
         where
           go : (e : TextLocation) → (Runs text e (suc (length (m .bytes))) → ⊥) → Dec (rows m pixels < m .height) → (q : TextLocation) × (whole (m .width) (m .height) (length pixels) text e ≡ stop 6 q)

@@ -26,7 +26,7 @@ use Rattle.grammar.specs.Fits.{Any, End}
 use Rattle.grammar.specs.Exact.{start-rest, data-fits, closing-fits, tail-fits}
 use Rattle.claims.specs.Terms.{Begun, W, rows}
 use Rattle.claims.specs.Numbers.{Numbered, header-numbered, items-numbered, item-numbered, closing-numbered, tail-numbered, whole-numbered, placed-number, unplaced-number}
-use Rattle.claims.specs.Printed.{heads}
+use Rattle.claims.specs.Limits.{heads}
 
 -- the header and all data bytes stand at the text's start, in u; and the buffer has rows enough
 pub record Whole (limit : ℕ) (text pixels u : List ℕ) (m : Mask) : Type 0 where

@@ -53,7 +53,6 @@ table =
     ∷ header-row "#define d_height 1\n#define d_x_hot 3\nstatic" "refused 4 byte=56,line=4:col=1\n"
     ∷ header-row "#define d_height 1\n#define d_x_hot 3\n#define d_y_hot 2147483648\n" "refused 14\n"
     ∷ header-row "#define d_height 1\nstatic int" "refused 5 byte=45,line=3:col=8\n"
-    ∷ row "#define d_height 1\n#define d_x_hot 3\n#define d_y_hot -40\nstatic char d_bits[] = {0x01,0x00};\n" "width 9\nheight 1\nhotspot 3 -40\nink 1\n" inked
     ∷ row "#define d_height 1\nstatic char d_bits[] = {0x01,0x00,0x00};\n" "refused 7 byte=72,line=3:col=35\n" inked
     ∷ row "#define d_height 1\nstatic char d_bits[] = {0x01,0x00z" "refused 7 byte=71,line=3:col=34\n" inked
     ∷ row "#define d_height 1\nstatic char d_bits[] = {0x01,0x00};\nz" "refused 8 byte=74,line=4:col=1\n" inked

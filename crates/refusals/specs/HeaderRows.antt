@@ -25,7 +25,7 @@ use Rattle.grammar.specs.Pieces.{leading-fits}
 use Rattle.grammar.specs.Lines.{width-fits}
 use Rattle.claims.specs.Terms.{Begun}
 use Rattle.claims.specs.Numbers.{Numbered, numbers, whole-numbered, placed-number, unplaced-number}
-use Rattle.refusals.specs.Terms.{Token, Front, Second, No, NoSide, Placed}
+use Rattle.refusals.specs.Terms.{NoWidthLine, BadWidth, ZeroWidth, NoHeightLine, BadHeight, ZeroHeight, Token, Front, Second, No, NoSide, Placed}
 use Rattle.refusals.specs.Stages.{both-ways, assoc, Quiet, quiet-mild, quiet-bind, quiet-need, quiet-fork, need-none, need-some, stage-stop, stage-bad, after-stop, after-bad, begun}
 use Rattle.refusals.specs.Lines.{known, known-fits, front, front-fits, widths, raw, define-begins, line-is, wide, next, header-is}
 
@@ -149,7 +149,7 @@ module _ (text name pixels : List ℕ) where
   abbrev Line : List ℕ × List ℕ → Lang
   Line p = Star Skipped · Define (Symbol limit (p .0)) (Word (p .1))
 
-  pub row-1 : Placed (reading text name pixels .answer) 1 ↔ ((s : List ℕ) → No (Front limit s Token) text)
+  pub row-1 : Placed (reading text name pixels .answer) 1 ↔ NoWidthLine limit text
   row-1 = both-ways (told-stop text name pixels 1 (omega arith)) (rw (header-is limit) (both-ways (stage-stop (front limit) (λ p. wide p >>= next) (λ p. Token (p .1)) Line (front-fits limit) 1 (front-numbered limit) text start wide-numbered (λ a b. omega arith)) (
     (λ g s b. (let (v, k, d) = begun-out (Star Skipped) (Symbol limit s) Token text b in let (e, l) = begun (Line (s, v)) text .1 d in g (s, v) e k l)),
     λ g p e k l. g (p .0) (begun-in (Star Skipped) (Symbol limit (p .0)) Token (p .1) text (begun (Line p) text .0 (e, l)) k),
@@ -162,10 +162,10 @@ module _ (text name pixels : List ℕ) where
     λ (s, w, b, x, y). (let (e, a) = begun (Line (s, w)) text .1 b in ((s, w), e, x, a, y)),
   )))
 
-  pub row-11 : (reading text name pixels .answer ≡ unplaced 11) ↔ ((s : List ℕ) × (w : List ℕ) × Begun (Front limit s (Word w)) text × Token w × NoSide w)
+  pub row-11 : (reading text name pixels .answer ≡ unplaced 11) ↔ BadWidth limit text
   row-11 = told-front 11 NoSide (λ q. omega arith) (λ s w m. wide-11 s w text m)
 
-  pub row-21 : (reading text name pixels .answer ≡ unplaced 21) ↔ ((s : List ℕ) × Begun (Front limit s (Decimal 0)) text)
+  pub row-21 : (reading text name pixels .answer ≡ unplaced 21) ↔ ZeroWidth limit text
   row-21 = both-ways (told-front 21 (Decimal 0) (λ q. omega arith) (λ s w m. wide-21 s w text m)) (
     (λ (s, w, b, x, d). (s, begun-in (Star Skipped) (Symbol limit s) (Decimal 0) w text b d)),
     λ (s, b). (let (v, d, c) = begun-out (Star Skipped) (Symbol limit s) (Decimal 0) text b in (s, v, c, zero-token v d, d)),
@@ -263,7 +263,7 @@ module _ (text name pixels : List ℕ) where
   abbrev High : List ℕ × ℕ → List ℕ → Lang
   High nw w = Define (Word (nw .0 ++ ascii "_height")) (Word w)
 
-  pub row-2 : Placed (reading text name pixels .answer) 2 ↔ ((m : Mask) × Begun (Front lim (m .name) (Side (m .width))) text × No (Second lim m Token) text)
+  pub row-2 : Placed (reading text name pixels .answer) 2 ↔ NoHeightLine lim text
   row-2 = both-ways (told-stop text name pixels 2 (omega arith)) (rw (header-next lim) (both-ways (after-stop (first lim) (λ nw. heights (nw .0)) high Wide (λ nw. All solid (nw .0)) Token High (first-fits lim) (λ nw w k. front-name lim (nw .0) (Side (nw .1)) w k) (λ nw s w. known-fits 2 (nw .0) (ascii "height") w s) 2 (λ nw. heights-numbered (nw .0)) text start (first-numbered lim) (λ a b. omega arith) high-numbered (λ a b. omega arith)) (
     (λ (nw, k, g). (sketch (nw .0) (nw .1) 0, begun (Wide nw) text .0 k, λ b. (let (v, x, d) = begun-out (Wide nw) (Word (nw .0 ++ ascii "_height")) Token text b in let (e, l) = begun (Wide nw · High nw v) text .1 d in g v e x l))),
     λ (m, b, g). ((m .name, m .width), begun (Wide (m .name, m .width)) text .1 b, λ v e x l. g (begun-in (Wide (m .name, m .width)) (Word (m .name ++ ascii "_height")) Token v text (begun (Wide (m .name, m .width) · High (m .name, m .width) v) text .0 (e, l)) x)),
@@ -276,10 +276,10 @@ module _ (text name pixels : List ℕ) where
     λ (m, w, b, x, y). (let (e, a) = begun (Wide (m .name, m .width) · High (m .name, m .width) w) text .1 b in ((m .name, m .width), w, e, x, a, y)),
   )))
 
-  pub row-12 : (reading text name pixels .answer ≡ unplaced 12) ↔ ((m : Mask) × (w : List ℕ) × Begun (Second lim m (Word w)) text × Token w × NoSide w)
+  pub row-12 : (reading text name pixels .answer ≡ unplaced 12) ↔ BadHeight lim text
   row-12 = told-first 12 NoSide (λ q. omega arith) (first-12 lim) (λ nw w m. high-12 nw w text m)
 
-  pub row-22 : (reading text name pixels .answer ≡ unplaced 22) ↔ ((m : Mask) × Begun (Second lim m (Decimal 0)) text)
+  pub row-22 : (reading text name pixels .answer ≡ unplaced 22) ↔ ZeroHeight lim text
   row-22 = both-ways (told-first 22 (Decimal 0) (λ q. omega arith) (first-22 lim) (λ nw w m. high-22 nw w text m)) (
     (λ (m, w, b, x, d). (m, begun-in (Wide (m .name, m .width)) (Word (m .name ++ ascii "_height")) (Decimal 0) w text b d)),
     λ (m, b). (let (v, d, c) = begun-out (Wide (m .name, m .width)) (Word (m .name ++ ascii "_height")) (Decimal 0) text b in (m, v, c, zero-token v d, d)),

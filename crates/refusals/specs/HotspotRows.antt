@@ -27,7 +27,7 @@ use Rattle.grammar.specs.Pieces.{begins-any}
 use Rattle.grammar.specs.Lines.{height-fits, hot-fits}
 use Rattle.claims.specs.Terms.{Begun}
 use Rattle.claims.specs.Numbers.{Numbered, numbers, placed-number, unplaced-number}
-use Rattle.refusals.specs.Terms.{Token, Front, Sides, Third, Fourth, No, NoCoordinate, Placed}
+use Rattle.refusals.specs.Terms.{NoXLine, BadX, NoYLine, BadY, Token, Front, Sides, Third, Fourth, No, NoCoordinate, Placed}
 use Rattle.refusals.specs.Stages.{both-ways, assoc, given, chain, Quiet, stop-second, bad-second, need-none, at-both, at-parts, stage-stop, later-stop, later-bad, one-end, none-after, after-stop, after-bad, begun}
 use Rattle.refusals.specs.Lines.{known, known-fits, raw, define-begins, line-is}
 use Rattle.refusals.specs.HeaderRows.{quiets, told-stop, told-bad, begun-out, begun-in, first, first-fits, front-name, known-quiet}
@@ -286,19 +286,19 @@ module _ (text name pixels : List ℕ) where
   abbrev LineY : Four → List ℕ → Lang
   LineY b w = Define (Word (b .0 .0 .0 ++ ascii "_y_hot")) (Word w)
 
-  pub row-13 : (reading text name pixels .answer ≡ unplaced 13) ↔ ((m : Mask) × (w : List ℕ) × Begun (Third lim m (Word w)) text × Token w × NoCoordinate w)
+  pub row-13 : (reading text name pixels .answer ≡ unplaced 13) ↔ BadX lim text
   row-13 = both-ways (told-bad text name pixels 13 (λ q. omega arith)) (rw (header-second lim) (both-ways (swap-bad 13 (second-13 lim)) (rw (second-hot lim) (both-ways (after-bad (second lim) (λ a. hot-x (a .0 .0)) left (Both lim) (λ a. All solid (a .0 .0)) Token LineX (second-fits lim) (both-name lim) (λ a s w. known-fits 3 (a .0 .0) (ascii "x_hot") w s) 3 (λ a. hot-x-numbered (a .0 .0)) text start 13 NoCoordinate (second-13 lim) (λ a. known-quiet 3 13 (a .0 .0) (ascii "_x_hot")) (λ a w m. left-13 a w text m)) (
     (λ (a, w, e, x, l, y). (maskOf a, w, begun (Both lim a · LineX a w) text .0 (e, l), x, y)),
     λ (m, w, b, x, y). (let (e, l) = begun (Both lim (threeOf m) · LineX (threeOf m) w) text .1 b in (threeOf m, w, e, x, l, y)),
   )))))
 
-  pub row-4 : Placed (reading text name pixels .answer) 4 ↔ ((m : Mask) × (x : ℤ) × Begun (Third lim m (Coordinate x)) text × No (Fourth lim m x Token) text)
+  pub row-4 : Placed (reading text name pixels .answer) 4 ↔ NoYLine lim text
   row-4 = both-ways (told-stop text name pixels 4 (omega arith)) (rw (header-second lim) (both-ways swap-4 (rw (third-hot lim) (both-ways (after-stop (third lim) (λ b. hot-y (b .0 .0 .0)) right (Crossed lim) (λ b. All solid (b .0 .0 .0)) Token LineY (third-fits lim) (crossed-name lim) (λ b s w. known-fits 4 (b .0 .0 .0) (ascii "y_hot") w s) 4 (λ b. hot-y-numbered (b .0 .0 .0)) text start (third-numbered lim) (λ a b. omega arith) right-numbered (λ a b. omega arith)) (
     (λ (b, k, g). (maskOf (b .0), b .1, begun (Crossed lim b) text .0 k, λ d. (let (v, x, c) = begun-out (Crossed lim b) (Word (b .0 .0 .0 ++ ascii "_y_hot")) Token text d in let (e, l) = begun (Crossed lim b · LineY b v) text .1 c in g v e x l))),
     λ (m, x, d, g). ((threeOf m, x), begun (Crossed lim (threeOf m, x)) text .1 d, λ v e y l. g (begun-in (Crossed lim (threeOf m, x)) (Word (m .name ++ ascii "_y_hot")) Token v text (begun (Crossed lim (threeOf m, x) · LineY (threeOf m, x) v) text .0 (e, l)) y)),
   )))))
 
-  pub row-14 : (reading text name pixels .answer ≡ unplaced 14) ↔ ((m : Mask) × (x : ℤ) × (w : List ℕ) × Begun (Fourth lim m x (Word w)) text × Token w × NoCoordinate w)
+  pub row-14 : (reading text name pixels .answer ≡ unplaced 14) ↔ BadY lim text
   row-14 = both-ways (told-bad text name pixels 14 (λ q. omega arith)) (rw (header-second lim) (both-ways (swap-bad 14 (second-14 lim)) (rw (third-hot lim) (both-ways (after-bad (third lim) (λ b. hot-y (b .0 .0 .0)) right (Crossed lim) (λ b. All solid (b .0 .0 .0)) Token LineY (third-fits lim) (crossed-name lim) (λ b s w. known-fits 4 (b .0 .0 .0) (ascii "y_hot") w s) 4 (λ b. hot-y-numbered (b .0 .0 .0)) text start 14 NoCoordinate (third-14 lim) (λ b. known-quiet 4 14 (b .0 .0 .0) (ascii "_y_hot")) (λ b w m. right-14 b w text m)) (
     (λ (b, w, e, x, l, y). (maskOf (b .0), b .1, w, begun (Crossed lim b · LineY b w) text .0 (e, l), x, y)),
     λ (m, x, w, d, z, y). (let (e, l) = begun (Crossed lim (threeOf m, x) · LineY (threeOf m, x) w) text .1 d in ((threeOf m, x), w, e, z, l, y)),
@@ -316,7 +316,7 @@ module _ (text name pixels : List ℕ) where
       there [] q n = absurd n
       there (x ∷ l) q n = (past m (35 ∷ []), at-both (Both lim a) (Lit "#") text start m (past m (35 ∷ [])) k (35 ∷ [], l, q ∙ ap (λ (y : ℕ). y ∷ l) n, refl, tt, refl))
 
-  pub row-3 : Placed (reading text name pixels .answer) 3 ↔ ((m : Mask) × Begun (Sides lim m · Lit "#") text × No (Third lim m Token) text)
+  pub row-3 : Placed (reading text name pixels .answer) 3 ↔ NoXLine lim text
   row-3 = both-ways (told-stop text name pixels 3 (omega arith)) (rw (header-second lim) (both-ways (later-stop (second lim) further (Both lim) (second-fits lim) 3 text start (second-numbered lim) (λ a b. omega arith)) (
     (λ (a, m, k, x). (let (n, y) = hot-stop lim a text m (both-name lim a (k .0) (k .3)) 3 (omega arith) .0 x in (maskOf a, hash a m k .0 n, lines a m k .0 y))),
     λ (m, b, g). (let (e, l) = begun (Both lim (threeOf m) · Lit "#") text .1 b in let (j, u, v) = at-parts (Both lim (threeOf m)) (Lit "#") text start e l in (threeOf m, j, u, hot-stop lim (threeOf m) text j (both-name lim (threeOf m) (u .0) (u .3)) 3 (omega arith) .1 (hash (threeOf m) j u .1 b, lines (threeOf m) j u .1 g))),

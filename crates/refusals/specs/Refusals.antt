@@ -2,12 +2,11 @@
 -- them, read the grammar (Lang, Grammar), the words (Terms here and in claims) and this file. No reader stands in a statement but `reading` and
 -- `stepOf`, which the contracts of the code cite. Every proof below is a citation. Where a refusal is told: places.
 use mathlib.Core.Path.{_≡_}
-use mathlib.Core.Logic.{_↔_, _⊎_}
-use Prim.Native.Nat.{ℕ, _+_, _-_, _*_, _≤_, _<_}
+use mathlib.Core.Logic.{_↔_}
+use Prim.Native.Nat.{ℕ, _+_, _-_, _≤_, _<_}
 use mathlib.Core.Option.{none, some}
-use mathlib.Core.List.{List, [], _∷_, _++_}
+use mathlib.Core.List.{List, _++_}
 use lib.ListN.{length, take}
-use lib.IntN.{ℤ}
 use Rattle.text.specs.declared.TextLocation.{TextLocation}
 use Rattle.text.specs.Place.{byteOf, past}
 use Rattle.text.specs.Outcome.{Outcome, accepted, refused, unplaced}
@@ -15,11 +14,11 @@ use Rattle.header.specs.Header.{Head}
 use Rattle.decoder.specs.declared.XbmStreamDecoder.{XbmStreamDecoder}
 use Rattle.decoder.specs.Step.{Step, stepOf}
 use Rattle.image.specs.Reading.{reading}
-use Rattle.grammar.specs.Lang.{Word, Lit, _·_}
-use Rattle.grammar.specs.Grammar.{Mask, Loose, Decimal, Side, Coordinate, Header, Data, Closing, Format}
-use Rattle.claims.specs.Terms.{Begun, W, rows, Mismatched, over}
+use Rattle.grammar.specs.Lang.{_·_}
+use Rattle.grammar.specs.Grammar.{Loose, Closing}
+use Rattle.claims.specs.Terms.{Begun, Mismatched, over}
 use Rattle.claims.specs.Mismatch
-use Rattle.refusals.specs.Terms.{Placed, InTable, Token, Front, Second, Sides, Third, Fourth, No, NoSide, NoCoordinate, Wanted, Foreign, sizeOf, ahead, moved, Item, Stores}
+use Rattle.refusals.specs.Terms.{Placed, InTable, NoWidthLine, BadWidth, ZeroWidth, NoHeightLine, BadHeight, ZeroHeight, NoXLine, BadX, NoYLine, BadY, NoArrayLine, NoDataByte, NoClosing, MoreBehind, No, Foreign, sizeOf, ahead, moved, Spent, Item, Stores}
 use Rattle.refusals.specs.Table
 use Rattle.refusals.specs.HeaderRows
 use Rattle.refusals.specs.HotspotRows
@@ -29,44 +28,22 @@ use Rattle.refusals.specs.Calls
 use Rattle.refusals.specs.CallRows
 use Rattle.refusals.specs.Stored
 
--- 1. NUMBERS. Document 01's table of refusals, a row a number: it comes exactly if all before it stands at the text's start and its own condition holds.
+-- 1. NUMBERS. Document 01's table of refusals: each number comes exactly if all before it stands at the text's start and its own condition holds.
 pub record Refusals (text name pixels : List ℕ) (a : Outcome Head) : Type 0 where
-  -- no leading lines and width line, whatever its token says
-  pub n1 : Placed a 1 ↔ ((s : List ℕ) → No (Front (length name) s Token) text)
-  -- its token is no integer in range; it is zero
-  pub n11 : (a ≡ unplaced 11) ↔ ((s : List ℕ) × (w : List ℕ) × Begun (Front (length name) s (Word w)) text × Token w × NoSide w)
-  pub n21 : (a ≡ unplaced 21) ↔ ((s : List ℕ) × Begun (Front (length name) s (Decimal 0)) text)
-  -- a width line, and no height line, whatever its token says; its token; zero
-  pub n2 : Placed a 2
-      ↔ ((m : Mask) × Begun (Front (length name) (m .name) (Side (m .width))) text × No (Second (length name) m Token) text)
-  pub n12 : (a ≡ unplaced 12) ↔ ((m : Mask) × (w : List ℕ) × Begun (Second (length name) m (Word w)) text × Token w × NoSide w)
-  pub n22 : (a ≡ unplaced 22) ↔ ((m : Mask) × Begun (Second (length name) m (Decimal 0)) text)
-  -- after the sides a `#`, and no line for `_x_hot`; its token
-  pub n3 : Placed a 3 ↔ ((m : Mask) × Begun (Sides (length name) m · Lit "#") text × No (Third (length name) m Token) text)
-  pub n13 : (a ≡ unplaced 13) ↔ ((m : Mask) × (w : List ℕ) × Begun (Third (length name) m (Word w)) text × Token w × NoCoordinate w)
-  -- after that line none for `_y_hot`; its token
-  pub n4 : Placed a 4
-      ↔ ((m : Mask) × (x : ℤ) × Begun (Third (length name) m (Coordinate x)) text × No (Fourth (length name) m x Token) text)
-  pub n14 : (a ≡ unplaced 14)
-      ↔ ((m : Mask) × (x : ℤ) × (w : List ℕ) × Begun (Fourth (length name) m x (Word w)) text × Token w × NoCoordinate w)
-  -- after the sides no `#`, or after the hotspot, and no array line
-  pub n5 : Placed a 5
-      ↔ ((m : Mask) × No (Header (length name) m) text
-        × (((m .hot ≡ none) × Begun (Sides (length name) m) text × No (Sides (length name) m · Lit "#") text)
-          ⊎ ((x : ℤ) × (y : ℤ) × (m .hot ≡ some (x, y)) × Begun (Fourth (length name) m x (Coordinate y)) text)))
-  -- the header and some data bytes, another is wanted, and none stands there
-  pub n6 : Placed a 6
-      ↔ ((m : Mask) × Wanted m pixels (length (m .bytes)) × Begun (Header (length name) m · Data (m .bytes)) text
-        × ((b : ℕ) → No (Header (length name) m · Data (m .bytes ++ (b ∷ []))) text))
-  -- all data bytes, rows enough for them, and no closing
-  pub n7 : Placed a 7
-      ↔ ((m : Mask) × (m .height ≤ rows m pixels) × (length (m .bytes) ≡ W m * m .height)
-        × Begun (Header (length name) m · Data (m .bytes)) text × No (Header (length name) m · Data (m .bytes) · Closing) text)
-  -- the closing too, and what follows it is not loose space alone
-  pub n8 : Placed a 8
-      ↔ ((m : Mask) × (m .height ≤ rows m pixels) × (length (m .bytes) ≡ W m * m .height)
-        × Begun (Header (length name) m · Data (m .bytes) · Closing) text × (Format (length name) m text → ⊥))
-  -- the buffer's rows are not the picture's
+  pub n1 : Placed a 1 ↔ NoWidthLine (length name) text
+  pub n11 : (a ≡ unplaced 11) ↔ BadWidth (length name) text
+  pub n21 : (a ≡ unplaced 21) ↔ ZeroWidth (length name) text
+  pub n2 : Placed a 2 ↔ NoHeightLine (length name) text
+  pub n12 : (a ≡ unplaced 12) ↔ BadHeight (length name) text
+  pub n22 : (a ≡ unplaced 22) ↔ ZeroHeight (length name) text
+  pub n3 : Placed a 3 ↔ NoXLine (length name) text
+  pub n13 : (a ≡ unplaced 13) ↔ BadX (length name) text
+  pub n4 : Placed a 4 ↔ NoYLine (length name) text
+  pub n14 : (a ≡ unplaced 14) ↔ BadY (length name) text
+  pub n5 : Placed a 5 ↔ NoArrayLine (length name) text
+  pub n6 : Placed a 6 ↔ NoDataByte (length name) text pixels
+  pub n7 : Placed a 7 ↔ NoClosing (length name) text pixels
+  pub n8 : Placed a 8 ↔ MoreBehind (length name) text pixels
   pub n31 : (a ≡ unplaced 31) ↔ Mismatched (length name) text pixels
 
 pub numbers : (text name pixels : List ℕ) → Refusals text name pixels (reading text name pixels .answer)
@@ -134,8 +111,7 @@ calls t d h = record {
 
 -- A refused call has spent its data byte, if one was left, and stands at the place told.
 pub goes-on : (text : List ℕ) (d : XbmStreamDecoder) (c : ℕ) (p : TextLocation) → stepOf text d .answer ≡ refused c p
-    → (d .«current_position» < sizeOf d → stepOf text d .decoder ≡ moved d (d .«current_position» + 1) p)
-    × (sizeOf d ≤ d .«current_position» → stepOf text d .decoder ≡ moved d (d .«current_position») p)
+    → (k : ℕ) × Spent d k × (stepOf text d .decoder ≡ moved d k p)
 goes-on = Calls.goes-on
 
 -- A call after a sound trailer meets the end and gives 7, where the decoder stands, and it stays there.

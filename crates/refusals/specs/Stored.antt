@@ -154,9 +154,13 @@ all-both g (x ∷ u) v (h, a) b = (h, all-both g u v a b)
 -- an opening with more blanks is one
 widened : (u z : List ℕ) → Opening u → All blank z → Opening (u ++ z)
 unfolding _·_ Gap Some
-widened u z (a, b, q, s, (c, d, r, l, (g, n))) h =
-    (a, c ++ (d ++ z), ap (λ (x : List ℕ). x ++ z) q ∙ append-assoc a b z ∙ ap (λ (x : List ℕ). a ++ x) (ap (λ (x : List ℕ). x ++ z) r ∙ append-assoc c d z), s,
-     (c, d ++ z, refl, l, (all-both blank d z g h, omega (arith, length-append d z))))
+widened u z (a, b, q, s, (c, d, r, l, (g, n))) h = (
+  a,
+  c ++ (d ++ z),
+  ap (λ (x : List ℕ). x ++ z) q ∙ append-assoc a b z ∙ ap (λ (x : List ℕ). a ++ x) (ap (λ (x : List ℕ). x ++ z) r ∙ append-assoc c d z),
+  s,
+  (c, d ++ z, refl, l, (all-both blank d z g h, omega (arith, length-append d z))),
+)
 
 opens : (t u v : List ℕ) → t ≡ u ++ v → Opening u → (e : TextLocation) × (opening t start ≡ ok tt e)
 opens t u v q o =

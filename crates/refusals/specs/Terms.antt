@@ -13,7 +13,7 @@ use Rattle.text.specs.Outcome.{Outcome, accepted, refused, unplaced}
 use Rattle.header.specs.Header.{Head}
 use Rattle.decoder.specs.declared.XbmStreamDecoder.{XbmStreamDecoder}
 use Rattle.grammar.specs.Lang.{Lang, Word, Lit, _·_, All, Star}
-use Rattle.grammar.specs.Grammar.{Mask, blank, solid, Loose, Decimal, Side, Coordinate, Skipped, Define, Symbol, Byte}
+use Rattle.grammar.specs.Grammar.{Mask, blank, solid, Loose, Decimal, Side, Coordinate, Skipped, Define, Symbol, Header, Byte, Data, Closing, Format}
 use Rattle.claims.specs.Terms.{Begun, W, rows, Opening}
 
 -- ---- answers
@@ -65,6 +65,66 @@ NoCoordinate w = (z : ℤ) → Coordinate z w → ⊥
 abbrev pub Wanted : Mask → List ℕ → ℕ → Type 0
 Wanted m pixels k = (k < W m * m .height) × (k ≤ W m * rows m pixels)
 
+-- ---- the conditions of document 01's table, of a text under a limit on the symbol, in the order of checking
+
+-- width line, whatever its token says: there is none; its token is no integer in range; it is zero
+abbrev pub NoWidthLine : ℕ → List ℕ → Type 0
+NoWidthLine limit t = (s : List ℕ) → No (Front limit s Token) t
+
+abbrev pub BadWidth : ℕ → List ℕ → Type 0
+BadWidth limit t = (s : List ℕ) × (w : List ℕ) × Begun (Front limit s (Word w)) t × Token w × NoSide w
+
+abbrev pub ZeroWidth : ℕ → List ℕ → Type 0
+ZeroWidth limit t = (s : List ℕ) × Begun (Front limit s (Decimal 0)) t
+
+-- after a width line with its side: no height line; its token; zero
+abbrev pub NoHeightLine : ℕ → List ℕ → Type 0
+NoHeightLine limit t = (m : Mask) × Begun (Front limit (m .name) (Side (m .width))) t × No (Second limit m Token) t
+
+abbrev pub BadHeight : ℕ → List ℕ → Type 0
+BadHeight limit t = (m : Mask) × (w : List ℕ) × Begun (Second limit m (Word w)) t × Token w × NoSide w
+
+abbrev pub ZeroHeight : ℕ → List ℕ → Type 0
+ZeroHeight limit t = (m : Mask) × Begun (Second limit m (Decimal 0)) t
+
+-- after both sides a `#`, and no line for `_x_hot`; its token
+abbrev pub NoXLine : ℕ → List ℕ → Type 0
+NoXLine limit t = (m : Mask) × Begun (Sides limit m · Lit "#") t × No (Third limit m Token) t
+
+abbrev pub BadX : ℕ → List ℕ → Type 0
+BadX limit t = (m : Mask) × (w : List ℕ) × Begun (Third limit m (Word w)) t × Token w × NoCoordinate w
+
+-- after that line none for `_y_hot`; its token
+abbrev pub NoYLine : ℕ → List ℕ → Type 0
+NoYLine limit t = (m : Mask) × (x : ℤ) × Begun (Third limit m (Coordinate x)) t × No (Fourth limit m x Token) t
+
+abbrev pub BadY : ℕ → List ℕ → Type 0
+BadY limit t = (m : Mask) × (x : ℤ) × (w : List ℕ) × Begun (Fourth limit m x (Word w)) t × Token w × NoCoordinate w
+
+-- after both sides and no `#`, or after the hotspot, no array line
+abbrev pub NoArrayLine : ℕ → List ℕ → Type 0
+NoArrayLine limit t =
+    (m : Mask) × No (Header limit m) t
+    × (((m .hot ≡ none) × Begun (Sides limit m) t × No (Sides limit m · Lit "#") t)
+    ⊎ ((x : ℤ) × (y : ℤ) × (m .hot ≡ some (x, y)) × Begun (Fourth limit m x (Coordinate y)) t))
+
+-- after the header and some data bytes another is wanted, and none stands there
+abbrev pub NoDataByte : ℕ → List ℕ → List ℕ → Type 0
+NoDataByte limit t pixels =
+    (m : Mask) × Wanted m pixels (length (m .bytes)) × Begun (Header limit m · Data (m .bytes)) t
+    × ((b : ℕ) → No (Header limit m · Data (m .bytes ++ (b ∷ []))) t)
+
+-- all data bytes, rows enough for them, and no closing; or a closing, and more behind it than loose space
+abbrev pub NoClosing : ℕ → List ℕ → List ℕ → Type 0
+NoClosing limit t pixels =
+    (m : Mask) × (m .height ≤ rows m pixels) × (length (m .bytes) ≡ W m * m .height)
+    × Begun (Header limit m · Data (m .bytes)) t × No (Header limit m · Data (m .bytes) · Closing) t
+
+abbrev pub MoreBehind : ℕ → List ℕ → List ℕ → Type 0
+MoreBehind limit t pixels =
+    (m : Mask) × (m .height ≤ rows m pixels) × (length (m .bytes) ≡ W m * m .height)
+    × Begun (Header limit m · Data (m .bytes) · Closing) t × (Format limit m t → ⊥)
+
 -- ---- decoders
 
 -- a foreign decoder, a condition a line
@@ -87,6 +147,10 @@ ahead t d = drop (d .location .byte .0) t
 -- the same with another position and place
 abbrev pub moved : XbmStreamDecoder → ℕ → TextLocation → XbmStreamDecoder
 moved d k p = record { width = d .width; height = d .height; «current_position» = k; location = p }
+
+-- its position after a refused call: one more, if a data byte was left
+abbrev pub Spent : XbmStreamDecoder → ℕ → Type 0
+Spent d k = ((d .«current_position» < sizeOf d) × (k ≡ d .«current_position» + 1)) ⊎ ((sizeOf d ≤ d .«current_position») × (k ≡ d .«current_position»))
 
 -- the data byte b where k are spent: the first, or one with a comma before it
 abbrev pub Item : ℕ → ℕ → Lang

@@ -1,12 +1,45 @@
 // Lists the mask on standard input: reads, calls the listing, writes.
+ghost use Prim.Native.Nat.{_≤_};
+ghost use lib.ListN.{length};
+ghost use Rattle.xbm_list.specs.Program.{ListsInput};
 use header::MAX_IDENTIFIER_LENGTH;
+use header::name_buffer;
+use listing::CELL_LIMIT;
+use listing::TEXT_LIMIT;
+use listing::list;
+
+// One byte more than a text may have, so that a longer one is seen.
+const TEXT_SIZE: usize = TEXT_LIMIT + 1;
+
+// A cell for each of the largest picture.
+const CELLS_SIZE: usize = CELL_LIMIT as usize;
+
+// Room for every listing.
+const OUT_SIZE: usize = 133;
+
+// Lists the input, of which the first n bytes of `text` are all or as much as it has room for.
+// The answer is how many bytes of `out` are the listing.
+fn list_input(
+    text: &[u8; TEXT_SIZE],
+    n: usize,
+    name: &mut [u8; MAX_IDENTIFIER_LENGTH],
+    cells: &mut [u8; CELLS_SIZE],
+    out: &mut [u8; OUT_SIZE],
+) -> usize
+    requires { ⌜ n ≤ length (now text) ⌝ }
+    ensures { λ r. ⌜ ListsInput (now (text .entry)) n (now (name .entry)) (now (cells .entry)) (now (out .entry))
+        (now (name .exit)) (now (cells .exit)) (now (out .exit)) r ⌝ }
+{
+    let buffer: &[u8] = text;
+    list(&buffer[..n], name, cells, out)
+}
 
 fn main() {
-    let mut text = [0u8; 65537];
+    let mut text = [0u8; TEXT_SIZE];
     let n = io::read_full(0, &mut text);
-    let mut name = [0u8; MAX_IDENTIFIER_LENGTH];
-    let mut cells = [0u8; 65536];
-    let mut out = [0u8; 128];
-    let size = listing::list(&text[..n], &mut name, &mut cells, &mut out);
+    let mut name = name_buffer();
+    let mut cells = [0u8; CELLS_SIZE];
+    let mut out = [0u8; OUT_SIZE];
+    let size = list_input(&text, n, &mut name, &mut cells, &mut out);
     io::write_all(1, &out[..size]);
 }

@@ -16,9 +16,10 @@ fn main() -> std::process::ExitCode {
 
 #[cfg(has_original)]
 mod timing {
-    use differential::interface::{self, Interface};
+    use differential::interface::Interface;
+    use differential::library;
     use differential::random::Random;
-    use differential::texts::{row_bytes, Mask};
+    use differential::texts::{row_bytes, Layout, Mask};
     use image::ImageDecoder;
     use oracle::{XbmDecoder, NAME_BUFFER_LENGTH};
     use std::hint::black_box;
@@ -34,39 +35,67 @@ mod timing {
     /// Fewer rounds than this tell no least time.
     const FEWEST_ROUNDS: u32 = 15;
 
-    /// What a case is called on the command line, and in the table.
-    const CASES: [(&str, &str); 5] = [
-        ("circle", "256x256 circle"),
-        ("random", "256x256 random"),
-        ("narrow", "64 KiB text, 9 wide"),
-        ("preamble", "4 KiB preamble, 16x16"),
-        ("large", "4096x4096 random"),
+    struct Case {
+        /// On the command line.
+        name: &'static str,
+        /// In the table.
+        title: &'static str,
+        mask: fn(&mut Random) -> Mask,
+    }
+
+    const fn case(name: &'static str, title: &'static str, mask: fn(&mut Random) -> Mask) -> Case {
+        Case { name, title, mask }
+    }
+
+    /// Pictures and preambles, data as the X tools write it; then one picture in other layouts of real files.
+    const CASES: [Case; 12] = [
+        case("circle", "256x256 circle", |_| circle(256)),
+        case("random", "256x256 random", |random| noise(random, 256, 256)),
+        case("narrow", "64 KiB text, 9 wide", |random| noise(random, 9, NARROW_ROWS)),
+        case("preamble", "4 KiB preamble, 16x16", |random| after(COPYRIGHT_LINE, 4096, random)),
+        case("short-lines", "64 KiB of 1-byte lines, 16x16", |random| after(b"*\n", 65536, random)),
+        case("large", "4096x4096 random", |random| noise(random, 4096, 4096)),
+        case("one-line", "256x256, one line", |random| laid_out(Layout::OneLine, random)),
+        case("compact", "256x256, compact", |random| laid_out(Layout::Compact, random)),
+        case("newlines", "256x256, comma and newline", |random| {
+            laid_out(Layout::ByteALine, random)
+        }),
+        case("bare", "256x256, bare commas in lines", |random| laid_out(Layout::BareLines, random)),
+        case("tabs", "256x256, tabs", |random| laid_out(Layout::Tabs, random)),
+        case("capitals", "256x256, 0X", |random| laid_out(Layout::Capitals, random)),
     ];
 
     pub fn main() -> ExitCode {
-        let Some(interface) = interface::linked() else {
-            eprintln!("bench: {}", differential::LIBRARY_MISSING);
-            return ExitCode::from(2);
+        let interface = match library::linked() {
+            Ok(interface) => interface,
+            Err(message) => {
+                eprintln!("bench: {message}");
+                return ExitCode::from(2);
+            }
         };
         let words: Vec<String> = std::env::args().skip(1).collect();
         let words: Vec<&str> = words.iter().map(String::as_str).collect();
-        match words[..] {
-            [] => table(&interface),
-            ["--instructions", case] if known(case) => count_instructions(case),
-            ["--one", case, "original"] if known(case) => Decoding::new(case).original_once(),
-            ["--one", case, "ours"] if known(case) => Decoding::new(case).ours_once(&interface),
+        let named = |word: &str| CASES.iter().find(|case| case.name == word);
+        let (act, case) = match words[..] {
+            [] => {
+                table(&interface);
+                return ExitCode::SUCCESS;
+            }
+            ["--instructions", case] => ("instructions", named(case)),
+            ["--one", case, side] => (side, named(case)),
+            _ => ("", None),
+        };
+        match (act, case) {
+            ("instructions", Some(case)) => count_instructions(case),
+            ("original", Some(case)) => Decoding::new(case).original_once(),
+            ("ours", Some(case)) => Decoding::new(case).ours_once(&interface),
             _ => {
-                let names: Vec<&str> = CASES.iter().map(|(case, _)| *case).collect();
-                let names = names.join(" | ");
+                let names = CASES.map(|case| case.name).join(" | ");
                 eprintln!("usage: bench [--instructions CASE], with CASE one of {names}");
                 return ExitCode::from(2);
             }
         }
         ExitCode::SUCCESS
-    }
-
-    fn known(case: &str) -> bool {
-        CASES.iter().any(|(name, _)| *name == case)
     }
 
     /// A text with the buffers that both sides are lent in turn.
@@ -77,26 +106,14 @@ mod timing {
     }
 
     impl Decoding {
-        fn new(case: &str) -> Decoding {
+        fn new(case: &Case) -> Decoding {
             let mut random = Random::new(1);
-            let (mask, cells) = match case {
-                "circle" => (circle(256), 256 * 256),
-                "random" => (noise(&mut random, 256, 256), 256 * 256),
-                "narrow" => (noise(&mut random, 9, NARROW_ROWS), 9 * NARROW_ROWS),
-                "preamble" => {
-                    let mut mask = noise(&mut random, 16, 16);
-                    while mask.preamble.len() < 4096 {
-                        mask.preamble.extend_from_slice(COPYRIGHT_LINE);
-                    }
-                    (mask, 16 * 16)
-                }
-                _ => (noise(&mut random, 4096, 4096), 4096 * 4096),
-            };
-            Decoding {
-                text: mask.text(&mut random),
-                name: [0; NAME_BUFFER_LENGTH],
-                pixels: vec![0; cells],
-            }
+            let text = (case.mask)(&mut random).text(&mut random);
+            let mut name = [0; NAME_BUFFER_LENGTH];
+            let read = oracle::read_header(&text, &mut name);
+            let header = read.expect("the benchmark's headers are sound").header;
+            let pixels = vec![0; header.width as usize * header.height as usize];
+            Decoding { text, name, pixels }
         }
 
         #[inline(never)]
@@ -108,7 +125,7 @@ mod timing {
 
         #[inline(never)]
         fn ours_once(&mut self, interface: &Interface) {
-            let text = black_box(self.text.as_slice());
+            let text = black_box(self.text.as_mut_slice());
             let answer = interface.read_image(text, &mut self.name, &mut self.pixels);
             assert_eq!(black_box(answer).result, 0, "ours accepts the benchmark's texts");
         }
@@ -140,16 +157,28 @@ mod timing {
         Mask::new("noise", width, height, data)
     }
 
+    /// The random picture in another layout.
+    fn laid_out(layout: Layout, random: &mut Random) -> Mask {
+        Mask { layout, ..noise(random, 256, 256) }
+    }
+
+    /// A small picture after a line repeated to at least so many bytes.
+    fn after(line: &[u8], preamble: usize, random: &mut Random) -> Mask {
+        let mut mask = noise(random, 16, 16);
+        mask.preamble = line.repeat(preamble.div_ceil(line.len()));
+        mask
+    }
+
     fn table(interface: &Interface) {
         println!("Least time of many rounds, the two sides alternating in one process.");
         println!("Both are lent the same buffers, not cleared between rounds.");
         println!();
         println!(
-            "{:<24}{:>12}{:>15}{:>15}{:>9}{:>9}",
+            "{:<32}{:>12}{:>15}{:>15}{:>9}{:>9}",
             "case", "text bytes", "original", "ours", "ratio", "rounds"
         );
-        for (case, title) in CASES {
-            let mut decoding = Decoding::new(case);
+        for case in CASES {
+            let mut decoding = Decoding::new(&case);
             decoding.original_once();
             let wanted = decoding.pixels.clone();
             decoding.pixels.fill(77);
@@ -158,7 +187,8 @@ mod timing {
 
             let (original, ours, rounds) = least_times(&mut decoding, interface);
             println!(
-                "{title:<24}{:>12}{:>12.2} us{:>12.2} us{:>9.2}{rounds:>9}",
+                "{:<32}{:>12}{:>12.2} us{:>12.2} us{:>9.2}{rounds:>9}",
+                case.title,
                 decoding.text.len(),
                 original * 1e6,
                 ours * 1e6,
@@ -193,7 +223,8 @@ mod timing {
     }
 
     /// Runs one decoding of each side under callgrind, counting only inside it.
-    fn count_instructions(case: &str) {
+    fn count_instructions(case: &Case) {
+        let case = case.name;
         let program = std::env::current_exe().expect("this program has a path");
         for side in ["original", "ours"] {
             let output = Command::new("valgrind")

@@ -1,19 +1,10 @@
-//! Compares the proved reader with the original on many texts: `compare [--seed N] [--count N]`.
+//! Compares the proved reader with the original: all families of texts, then as many drawn comparisons as are
+//! asked for. `compare [--seed N] [--count N]`.
 
 use std::process::ExitCode;
 
-/// The seed of a run that names none.
-const SEED: u64 = 20_260_924;
-
-/// The comparisons of a run that names no count.
-const COUNT: u64 = 5_000_000;
-
 #[cfg(has_original)]
 fn main() -> ExitCode {
-    let Some(interface) = differential::interface::linked() else {
-        eprintln!("compare: {}", differential::LIBRARY_MISSING);
-        return ExitCode::from(2);
-    };
     let (seed, count) = match options(std::env::args().skip(1)) {
         Ok(options) => options,
         Err(message) => {
@@ -21,21 +12,30 @@ fn main() -> ExitCode {
             return ExitCode::from(2);
         }
     };
+    let interface = match differential::library::linked() {
+        Ok(interface) => interface,
+        Err(message) => {
+            eprintln!("compare: {message}");
+            return ExitCode::from(2);
+        }
+    };
     let started = std::time::Instant::now();
-    let tally = match differential::trials::run(&interface, seed, count) {
-        Ok(tally) => tally,
+    let run = match differential::trials::run(&interface, seed, count) {
+        Ok(run) => run,
         Err(difference) => {
             print!("{difference}");
             println!("seed {seed}: the original and ours DIFFER");
             return ExitCode::FAILURE;
         }
     };
-    let unreached = tally.unreached();
+    let seconds = started.elapsed().as_secs_f64();
+    println!("{} comparisons of the families, {} drawn", run.families, run.drawn);
+    println!("pictures drawn, {}", run.reached.summary());
+    let unreached = run.unreached();
     if !unreached.is_empty() {
         println!("never tried: {}", unreached.join(", "));
     }
-    let seconds = started.elapsed().as_secs_f64();
-    println!("seed {seed}, {seconds:.1} s, no difference in {}", tally.summary());
+    println!("seed {seed}, {seconds:.1} s, no difference in {}", run.tally.summary());
     if unreached.is_empty() {
         ExitCode::SUCCESS
     } else {
@@ -49,9 +49,10 @@ fn main() -> ExitCode {
     ExitCode::from(2)
 }
 
-#[cfg_attr(not(has_original), allow(dead_code))]
+/// The seed and the count of drawn comparisons.
+#[cfg(has_original)]
 fn options(mut words: impl Iterator<Item = String>) -> Result<(u64, u64), String> {
-    let (mut seed, mut count) = (SEED, COUNT);
+    let (mut seed, mut count) = (differential::trials::SEED, differential::trials::COUNT);
     while let Some(word) = words.next() {
         let chosen = match word.as_str() {
             "--seed" => &mut seed,

@@ -1,6 +1,6 @@
--- `xbm_list::main` meets its contract: each return is a law (`list-within`, `listed-size`).
+-- `xbm_list::main` meets its contract: what is written is a part of the output (`taken-size`).
 use borrow.Author.Needs.{needs}
-use Rattle.listing.proofs.Laws.{list-within, listed-size}
+use Rattle.xbm_list.proofs.Laws.{taken-size}
 use Rattle.xbm_list.proofs.main.Statement.{statement}
 use Rattle.xbm_list.proofs.main.Tie as tie
 
@@ -10,29 +10,17 @@ slice-aggregate-read-full c = search needs
 read-full-requires : tie.Need-read-full-requires
 read-full-requires c κs = search needs
 
-array-share-prefix-text : tie.Need-array-share-prefix-text
-array-share-prefix-text c = search needs
+name-buffer-requires : tie.Need-name-buffer-requires
+name-buffer-requires c κs = search needs
 
-slice-aggregate-list : tie.Need-slice-aggregate-list
-slice-aggregate-list c = search needs
-
-slice-aggregate-list-2 : tie.Need-slice-aggregate-list-2
-slice-aggregate-list-2 c = search needs
-
-slice-aggregate-list-3 : tie.Need-slice-aggregate-list-3
-slice-aggregate-list-3 c = search needs
-
-slice-aggregate-list-4 : tie.Need-slice-aggregate-list-4
-slice-aggregate-list-4 c = search needs
-
-list-requires : tie.Need-list-requires
-list-requires c κs = search needs
+list-input-requires : tie.Need-list-input-requires
+list-input-requires c κs = search needs
 
 array-share-prefix-out : tie.Need-array-share-prefix-out
-array-share-prefix-out c = search (list-within, needs)
+array-share-prefix-out c = search needs
 
 slice-aggregate-write-all : tie.Need-slice-aggregate-write-all
-slice-aggregate-write-all c = search (listed-size, needs)
+slice-aggregate-write-all c = search (taken-size, needs)
 
 write-all-requires : tie.Need-write-all-requires
 write-all-requires c κs = search needs
@@ -46,12 +34,8 @@ main-spec =
     (tie.spec
     slice-aggregate-read-full
     read-full-requires
-    array-share-prefix-text
-    slice-aggregate-list
-    slice-aggregate-list-2
-    slice-aggregate-list-3
-    slice-aggregate-list-4
-    list-requires
+    name-buffer-requires
+    list-input-requires
     array-share-prefix-out
     slice-aggregate-write-all
     write-all-requires

@@ -1,0 +1,66 @@
+-- Why the buffers are large enough: one byte past the limit tells a text that is too long, and no listing is longer than 133 bytes.
+use Prim.Native.Nat.{ℕ, _≤_, _<_}
+use native.Mathlib.Omega.{arith}
+use mathlib.Core.Path.{_≡_, refl, sym, ap, _∙_}
+use mathlib.Core.List.{List, _++_}
+use lib.ListN.{length, take, drop, length-take, length-append}
+use lib.Seq.{take-all, take-at, drop-append-seam}
+use Rattle.text.specs.Ascii.{ascii}
+use Rattle.text.specs.Place.{start}
+use Rattle.header.specs.Header.{header}
+use Rattle.print.specs.Output.{Output, output, puts, joined, puts-start}
+use Rattle.print.specs.Decimal.{digits}
+use Rattle.listing.specs.Listing.{Listed, printed, afterHeader, listed, listing, Lists}
+use Rattle.listing.specs.Sizes.{listing-short, listed-long, listed-short, listed-beginning}
+use Rattle.xbm_list.specs.Program.{Holds, Prints, ListsInput}
+
+pub taken-size : (n : ℕ) (text : List ℕ) → n ≤ length text → n ≡ length (take n text)
+taken-size n text h = omega (arith, length-take n text)
+
+-- the promise speaks of some input at every call
+pub holds-own : (text : List ℕ) (n : ℕ) → n ≤ length text → Holds text n (take n text)
+holds-own text n h = sym (take-all (length text) (take n text) (omega (arith, length-take n text)))
+
+-- with room for every listing, all of it is written and the rest of the output is as lent
+module _ (w out out′ : List ℕ) (r : ℕ) (short : length w ≤ length out) (e : output out′ r ≡ puts w (output out 0)) where
+  all : output out′ r ≡ output (w ++ drop (length w) out) (length w)
+  all = e ∙ puts-start w out short
+
+  wrote : take r out′ ≡ w
+  wrote = ap (λ (o : Output). take (o .at) (o .bytes)) all ∙ take-at w (drop (length w) out) (length w) refl
+
+  others : drop r out′ ≡ drop r out
+  others =
+      ap (λ (o : Output). drop (o .at) (o .bytes)) all
+      ∙ drop-append-seam w (drop (length w) out)
+      ∙ ap (λ (o : Output). drop (o .at) out) (sym all)
+
+  within : r ≤ length out′
+  within =
+      let a : r ≡ length w = ap (λ (o : Output). o .at) all in
+      let b : length out′ ≡ length (w ++ drop (length w) out) = ap (λ (o : Output). length (o .bytes)) all in
+      omega (arith, a, b, length-append w (drop (length w) out))
+
+too-long : (input name cells : List ℕ) → 65536 < length input → listing input name cells ≡ ascii "refused 41\n"
+unfolding joined digits
+too-long input name cells h = ap (λ (x : Listed). printed (x .told) (x .ink)) (listed-long input name cells h)
+
+module _ (text : List ℕ) (n : ℕ) (name cells out name′ cells′ : List ℕ) {out′ : List ℕ} {r : ℕ} (k : Lists (take n text) name cells out name′ cells′ out′ r) where
+  short : 133 ≤ length out → length (listing (take n text) name cells) ≤ length out
+  short h = omega (arith, h, listing-short (take n text) name cells)
+
+  prints : 65536 < length text → 133 ≤ length out → length name ≡ 256 → (input : List ℕ) → Holds text n input → Prints input name cells out name′ cells′ out′ r
+  prints l h s input e =
+      let same : listed (take n text) name cells ≡ listed input name cells = ap (λ (t : List ℕ). listed t name cells) e ∙ listed-beginning input name cells (length text) l in
+      let all : take r out′ ≡ listing input name cells = wrote _ out out′ r (short h) (k .prints) ∙ ap (λ (x : Listed). printed (x .told) (x .ink)) same in
+      record {
+        whole = all;
+        others = others _ out out′ r (short h) (k .prints);
+        long = λ b. all ∙ too-long input name cells b;
+        short = λ b. listed-short input name cells b ∙ ap (λ (m : ℕ). afterHeader input name cells (header m input start)) s;
+        named = k .named ∙ ap (λ (x : Listed). x .symbol) same;
+        filled = k .filled ∙ ap (λ (x : Listed). x .cells) same;
+      }
+
+  pub lists-input : 65536 < length text → 133 ≤ length out → length name ≡ 256 → length cells ≡ 65536 → ListsInput text n name cells out name′ cells′ out′ r
+  lists-input l h s p = record { prints = prints l h s; symbol = s; picture = p; within = within _ out out′ r (short h) (k .prints) }

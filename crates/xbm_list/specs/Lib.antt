@@ -1,0 +1,2 @@
+-- The definitions of `xbm_list`, by module.
+pub mod Program
