@@ -1,6 +1,7 @@
 -- THE CLAIM ON THE EARLIEST PLACE: the bytes before the wrong one can still be saved, and with it no longer. To believe
 -- it, read: the grammar (Lang and Grammar), the reading that all contracts cite (Reading and what it names), Terms of
--- `claims` and of `refusals`, Savable (the words used here), and this file. Every proof below is a citation.
+-- `claims` and of `refusals`, Savable (the words used here, and what it names), and this file. Every proof below is a
+-- citation.
 use mathlib.Core.Path.{_≡_}
 use mathlib.Core.Logic.{_⊎_}
 use Prim.Native.Nat.{ℕ, _*_, _≤_, _<_}

@@ -18,12 +18,13 @@ use Rattle.header.specs.Header.{endsWith, before, positive, widthLine, element,
 use Rattle.decoder.specs.Data.{item, items, brace, closing, tail, trailer}
 use Rattle.image.specs.Rows.{whole}
 use Rattle.image.specs.Reading.{picture, reading}
-use Rattle.grammar.specs.Lang.{Lang, Word, _·_, All, Many, Some, stop as none-more}
-use Rattle.grammar.specs.Grammar.{Mask, blank, solid, Gap, Define, Symbol, Header, Data, Format}
+use Rattle.grammar.specs.Lang.{Lang, Word, _·_, All, Many, Some, Star, stop as none-more}
+use Rattle.grammar.specs.Grammar.{Mask, blank, solid, Gap, Skipped, Define, Symbol, Header, Data, Format}
 use Rattle.claims.specs.Terms.{Begun, Opening}
 use Rattle.refusals.specs.Terms.{Token}
 use Rattle.refusals.specs.Lines.{front, widths}
 use Rattle.refusals.specs.HeaderRows.{row-1}
+use Rattle.places.specs.Terms.{Named}
 use Rattle.places.specs.Savable.{Can, Lost, Savable, taken, ended, SavableLine, long, Width, BeforeWidth, Stuck}
 use Rattle.places.specs.EarliestWidth.{named, stuck, exactly}
 use Rattle.places.specs.Earliest.{earliest}
@@ -68,9 +69,9 @@ opens : Opening (ascii "#define ")
 unfolding _·_ Word Gap Some
 opens = ([], ascii "#define ", refl, none-more, (ascii "#define", ascii " ", refl, refl, ((refl, tt), omega arith)))
 
-headed : (Opening · Symbol 256 (ascii "d") · Gap) (ascii "#define d_width ")
-unfolding _·_ Gap Some Symbol
-headed = (ascii "#define ", ascii "d_width ", refl, opens, (ascii "d_width", ascii " ", refl, (refl, (refl, tt), omega arith), ((refl, tt), omega arith)))
+headed : (Star Skipped · Named (Symbol 256 (ascii "d"))) (ascii "#define d_width ")
+unfolding _·_ Word Gap Some Symbol
+headed = ([], ascii "#define d_width ", refl, none-more, (ascii "#define", ascii " d_width ", refl, refl, (ascii " ", ascii "d_width ", refl, ((refl, tt), omega arith), (ascii "d_width", ascii " ", refl, (refl, (refl, tt), omega arith), ((refl, tt), omega arith)))))
 
 -- refused with 1, whatever follows: no continuation has a width line
 gone-1 : (t : List ℕ) (p : TextLocation) → ((v : List ℕ) → reading (t ++ v) name [] .answer ≡ refused 1 p) → Lost (Width 256) t

@@ -23,7 +23,8 @@ use Rattle.refusals.specs.Terms.{Token}
 use Rattle.refusals.specs.Lines.{raw, known, known-fits}
 use Rattle.refusals.specs.HeaderRows.{begun-in, begun-out}
 use Rattle.refusals.specs.Stages.{chain, at-both, at-parts, one-end, read-at, begun}
-use Rattle.places.specs.Savable.{Before, TooLong, SavableLine, short, long}
+use Rattle.places.specs.Terms.{Named}
+use Rattle.places.specs.Savable.{TooLong, SavableLine, short, long}
 use Rattle.places.specs.Saving.{Good, good-on, front-same, walk-word, Way, Saved, Able, Open, fits-keep, way-first, way-second, saved-first, saved-second, bind-able}
 use Rattle.places.specs.SavingLeaves.{next-off}
 use Rattle.places.specs.SavingRuns.{token-over, over-token, token-able, token-way}
@@ -98,7 +99,7 @@ pub all-front : (w v : List ℕ) → All solid (w ++ v) → All solid w
 all-front [] v a = tt
 all-front (x ∷ w) v a = (a .0, all-front w v (a .1))
 
-headed-fits : (c : ℕ) (name z : List ℕ) → All solid name → Fits (headed c name (95 ∷ z)) tt (Unit {0}) (Before (Word (name ++ (95 ∷ z)))) (Off blank)
+headed-fits : (c : ℕ) (name z : List ℕ) → All solid name → Fits (headed c name (95 ∷ z)) tt (Unit {0}) (Named (Word (name ++ (95 ∷ z)))) (Off blank)
 unfolding headed
 headed-fits c name z s = fit-fixed c hashDefine (λ a. fit-gap c (search begin) (λ a. fit-two c name (95 ∷ z) (λ a. gap-fits c)))
 
@@ -146,7 +147,7 @@ module _ {A : Type 0} (c : ℕ) (pre : Reader A) (K : A → Lang) (nameOf : A �
       let r : known c (nameOf a) (95 ∷ z) y m ≡ ok v n = rw same at (read-at (known-fits c (nameOf a) z v named) y i n .1 (x, k)) in
       let j : _≡_ {A = ℕ} 0 1 = cc (is-line y (stop c e) q, r) in omega arith
 
-  reads : (n : ℕ) → TooLong (K a · Before S) t n → (x : Unit {0}) × (i : TextLocation) × (d : ℕ) × (o : TextLocation) × (headed c (nameOf a) (95 ∷ z) t m ≡ ok x i) × (token isLoose c 11 t i ≡ stop d o)
+  reads : (n : ℕ) → TooLong (K a · Named S) t n → (x : Unit {0}) × (i : TextLocation) × (d : ℕ) × (o : TextLocation) × (headed c (nameOf a) (95 ∷ z) t m ≡ ok x i) × (token isLoose c 11 t i ≡ stop d o)
   unfolding _·_ Any
   reads n (x, w, b, v, q, (x1, y, x2, k, h), l, eleven, s) =
       let all : t ≡ x1 ++ (y ++ (w ++ (b ∷ v))) = q ∙ ap (λ (r : List ℕ). r ++ (w ++ (b ∷ v))) x2 ∙ append-assoc x1 y (w ++ (b ∷ v)) in
@@ -162,7 +163,7 @@ module _ {A : Type 0} (c : ℕ) (pre : Reader A) (K : A → Lang) (nameOf : A �
         over-token c 11 t i w b v (move y (w ++ (b ∷ v)) t m here) eleven s,
       )
 
-  tells : (x : Unit {0}) (i : TextLocation) → headed c (nameOf a) (95 ∷ z) t m ≡ ok x i → (w : List ℕ) (b : ℕ) (r : List ℕ) → rest t i ≡ w ++ (b ∷ r) → length w ≡ 11 → All solid (w ++ (b ∷ [])) → TooLong (K a · Before S) t (byteOf (past i w))
+  tells : (x : Unit {0}) (i : TextLocation) → headed c (nameOf a) (95 ∷ z) t m ≡ ok x i → (w : List ℕ) (b : ℕ) (r : List ℕ) → rest t i ≡ w ++ (b ∷ r) → length w ≡ 11 → All solid (w ++ (b ∷ [])) → TooLong (K a · Named S) t (byteOf (past i w))
   unfolding _·_
   tells x i h w b r q eleven s =
       let (x1, r1, d1, k1, f1, o1) = there in
@@ -172,9 +173,9 @@ module _ {A : Type 0} (c : ℕ) (pre : Reader A) (K : A → Lang) (nameOf : A �
       let all : t ≡ (x1 ++ y) ++ (w ++ (b ∷ r)) = sym (start-rest t) ∙ d1 ∙ ap (λ (l : List ℕ). x1 ++ l) (p1 ∙ ap (λ (l : List ℕ). y ++ l) p2) ∙ sym (append-assoc x1 y (w ++ (b ∷ r))) in
       (x1 ++ y, w, b, r, all, (x1, y, refl, k1, k2), omega (arith, past-byte i w, ap byteOf o2, past-byte m y, ap byteOf o1, past-byte start x1, length-append (x1 ++ y) w, length-append x1 y), eleven, s)
 
-  pub at-known : known c (nameOf a) (95 ∷ z) t m ≡ stop c e → SavableLine t e (K a · Before S) (Begun (K a · Define S Token))
+  pub at-known : known c (nameOf a) (95 ∷ z) t m ≡ stop c e → SavableLine t e (K a · Named S) (Begun (K a · Define S Token))
   at-known q =
       let x : line t m ≡ stop c e = ap (λ (p : Reader (List ℕ)). p t m) (sym (known-is c (nameOf a) (95 ∷ z))) ∙ q in
       let opens : Open (headed c (nameOf a) (95 ∷ z)) (Next 10) (Next 35) = headed-open c (nameOf a) z named in
-      line-lift c (headed c (nameOf a) (95 ∷ z)) (λ x w. w) (opens .able) t m good e (K a · Before S) (Begun (K a · Define S Token)) whole none-there reads tells x
+      line-lift c (headed c (nameOf a) (95 ∷ z)) (λ x w. w) (opens .able) t m good e (K a · Named S) (Begun (K a · Define S Token)) whole none-there reads tells x
       (refused c (headed c (nameOf a) (95 ∷ z)) (λ x w. w) (opens .able) t m good e (λ d o y. opens .saves t m d o good y) x)

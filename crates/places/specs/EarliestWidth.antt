@@ -25,7 +25,7 @@ use Rattle.grammar.specs.Tests.{want-inv, before→ends, ends→before}
 use Rattle.grammar.specs.Lines.{all-left, symbol-begins}
 use Rattle.grammar.specs.Exact.{start-rest}
 use Rattle.grammar.specs.Bind.{bind-case, bind-ok, bind-stop, past-byte, move}
-use Rattle.grammar.specs.Fits.{Follow, Any, Off, Next, At, Fits, Begins, fit-run, fit-drop, fit-bind, fit-done, fit-give}
+use Rattle.grammar.specs.Fits.{Follow, Any, Off, Next, At, Fits, Begins, fit-run, fit-same, fit-drop, fit-bind, fit-done, fit-give}
 use Rattle.grammar.specs.Pieces.{begin, begins-all, begins-cat, gap-fits, solid-blank, gap-solid, class-fits, leading-fits, token-fits, fit-fixed, blank-is}
 use Rattle.claims.specs.Terms.{Begun, Opening}
 use Rattle.claims.specs.Numbers.{skip-numbered}
@@ -34,6 +34,7 @@ use Rattle.refusals.specs.Lines.{raw, value-is, widths, front, front-fits, wide
 use Rattle.refusals.specs.HeaderRows.{begun-in, begun-out, wide-numbered}
 use Rattle.refusals.specs.Stages.{assoc, chain, given, stop-first, read-at, begun}
 use Rattle.refusals.specs.Stored.{opening-fits, off, not-next}
+use Rattle.places.specs.Terms.{Named}
 use Rattle.places.specs.Savable.{Can, Lost, Savable, TooLong, SavableLine, Width, BeforeWidth, BadSymbol, GoodSymbol, Stuck}
 use Rattle.places.specs.Saving.{Good, good-on, front-same, Saved, Able, Open, fits-keep, word-way, saved-first, saved-second, bind-able, bind-open}
 use Rattle.places.specs.SavingLeaves.{next-off, give-open, byte-open, fixed-open, gap-open}
@@ -121,9 +122,16 @@ symbol-able limit six = bind-able {F = Next 32} (named-able limit six (next-off 
 heading-able : (limit : ℕ) → 6 ≤ limit → Able (heading limit) (Next 10) Any
 heading-able limit six = bind-able {F = Off isBlank} (opening-open .able) (λ a. symbol-able limit six)
 
-heading-fits : (limit : ℕ) (name : List ℕ) → Fits (heading limit) name (Unit {0}) (Opening · Symbol limit name · Gap) (Off blank)
-heading-fits limit name =
-    fit-run opening-fits (begins-cat _ (begins-all blank solid solid-blank (symbol-begins limit name 0))) (λ a. fit-drop (fit-bind name (λ s. Unit {0}) (Symbol limit) (λ s. Gap) (λ s. Unit {0}) (named-fits limit) (λ s w k. tt) gap-solid (λ s u. fit-done (gap-fits 1) (λ x. fit-give s ((λ (e, y). e), λ e. (e, tt))))))
+heading-fits : (limit : ℕ) (name : List ℕ) → Fits (heading limit) name (Unit {0}) (Star Skipped · Named (Symbol limit name)) (Off blank)
+unfolding _·_
+heading-fits limit name = fit-same (λ w. ((λ (x, k). (x, there w k)), λ (x, k). (x, back w k))) (
+    fit-run opening-fits (begins-cat _ (begins-all blank solid solid-blank (symbol-begins limit name 0))) (λ a. fit-drop (fit-bind name (λ s. Unit {0}) (Symbol limit) (λ s. Gap) (λ s. Unit {0}) (named-fits limit) (λ s w k. tt) gap-solid (λ s u. fit-done (gap-fits 1) (λ x. fit-give s ((λ (e, y). e), λ e. (e, tt)))))))
+  where
+    there : (w : List ℕ) → (Opening · Symbol limit name · Gap) w → (Star Skipped · Named (Symbol limit name)) w
+    there w (x, y, q, (a, b, q1, s, (d, g, q2, l, h)), k) = (a, d ++ (g ++ y), rw (q, q1, q2) (simp append-assoc), s, (d, g ++ y, refl, l, (g, y, refl, h, k)))
+
+    back : (w : List ℕ) → (Star Skipped · Named (Symbol limit name)) w → (Opening · Symbol limit name · Gap) w
+    back w (a, b, q, s, (d, b2, q2, l, (g, y, q3, h, k))) = (a ++ (d ++ g), y, rw (q, q2, q3) (simp append-assoc), (a, d ++ g, refl, s, (d, g, refl, l, h)), k)
 
 -- whose refusal it is: what precedes the symbol, the symbol, or neither
 data Source (limit : ℕ) (t : List ℕ) (c : ℕ) (e : TextLocation) : Type 0 where

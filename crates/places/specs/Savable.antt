@@ -8,10 +8,11 @@ use lib.ListN.{length, take}
 use Rattle.text.specs.declared.TextLocation.{TextLocation}
 use Rattle.text.specs.Ascii.{ascii}
 use Rattle.text.specs.Place.{byteOf}
-use Rattle.grammar.specs.Lang.{Lang, Lit, _·_, All}
-use Rattle.grammar.specs.Grammar.{Mask, blank, solid, Gap, Define, Symbol}
+use Rattle.grammar.specs.Lang.{Lang, _·_, All, Star}
+use Rattle.grammar.specs.Grammar.{Mask, blank, solid, Skipped, Define, Symbol}
 use Rattle.claims.specs.Terms.{Begun, Opening, W, rows}
 use Rattle.refusals.specs.Terms.{Token, Front, NotNext}
+use Rattle.places.specs.Terms.{Named}
 
 -- these bytes have a continuation of this kind; they have none
 abbrev pub Can : Lang → List ℕ → Type 0
@@ -29,10 +30,6 @@ pub data Savable (text : List ℕ) (p : TextLocation) (L : Lang) : Type 0 where
 
 -- ---- define lines
 
--- a define line up to its integer
-abbrev pub Before : Lang → Lang
-Before symbol = Lit "#define" · Gap · symbol · Gap
-
 -- a token too long, after a word of K: eleven solid bytes, up to byte n, and another follows
 abbrev pub TooLong : Lang → List ℕ → ℕ → Type 0
 TooLong K t n =
@@ -49,7 +46,7 @@ pub data SavableLine (text : List ℕ) (p : TextLocation) (K L : Lang) : Type 0 
 
 -- a define line with this symbol and any token, after a word of K
 abbrev pub SavableDefine : List ℕ → TextLocation → Lang → Lang → Type 0
-SavableDefine text p K symbol = SavableLine text p (K · Before symbol) (Begun (K · Define symbol Token))
+SavableDefine text p K symbol = SavableLine text p (K · Named symbol) (Begun (K · Define symbol Token))
 
 -- ---- the width line
 
@@ -59,7 +56,7 @@ Width limit t = (s : List ℕ) × Begun (Front limit s Token) t
 
 -- and what precedes its token
 abbrev pub BeforeWidth : ℕ → Lang
-BeforeWidth limit u = (s : List ℕ) × (Opening · Symbol limit s · Gap) u
+BeforeWidth limit u = (s : List ℕ) × (Star Skipped · Named (Symbol limit s)) u
 
 -- a symbol that is refused, at byte n
 pub record BadSymbol (limit : ℕ) (text : List ℕ) (n : ℕ) : Type 0 where
