@@ -1,104 +1,92 @@
--- Up to the place of a refusal the text can still be saved: the format's parts, and the theorem.
-use mathlib.Core.Path.{_≡_, refl, sym, ap, _∙_}
-use mathlib.Core.Logic.{_⊎_, inl, inr}
-use Prim.Native.Nat.{ℕ, zero, suc, _+_, _*_, _≤_, _<_}
-use native.Mathlib.Omega.{arith}
-use mathlib.Core.Option.{Option, none, some}
-use mathlib.Core.Bool.{Bool, true, false}
-use mathlib.Core.List.{List, [], _∷_, _++_}
-use lib.ListN.{length, take, drop}
+-- THE CLAIM ON THE EARLIEST PLACE: the bytes before the wrong one can still be saved, and with it no longer. To believe
+-- it, read: the grammar (Lang and Grammar), the reading that all contracts cite (Reading and what it names), Terms of
+-- `claims` and of `refusals`, Savable (the words used here, and what it names), and this file. Every proof below is a
+-- citation.
+use mathlib.Core.Path.{_≡_}
+use mathlib.Core.Logic.{_⊎_}
+use Prim.Native.Nat.{ℕ, _*_, _≤_, _<_}
+use mathlib.Core.List.{List, _++_}
+use lib.ListN.{length}
+use lib.IntN.{ℤ}
 use Rattle.text.specs.declared.TextLocation.{TextLocation}
 use Rattle.text.specs.Ascii.{ascii}
-use Rattle.text.specs.Place.{byteOf, rest, start, past}
-use Rattle.text.specs.Reader.{Result, ok, stop, bad, Reader, _>>=_, _>>_, Same, Local, Firm, Grows}
-use Rattle.text.specs.Leaf.{give, want, fork, eot}
-use Rattle.lexical.specs.Lexical.{is, byte, skip, fixed, gap, lineEnd, leading, isBlank, isLoose, isBlank, locals, milds, firms}
-use Rattle.lexical.specs.Token.{token}
-use Rattle.lexical.specs.Hex.{hexv, hexOf, hexDigit, hexStart, hexDigits, hexUnit, isMark}
-use Rattle.header.specs.Header.{hashDefine, element, arrayLine, line-laws}
-use Rattle.decoder.specs.Data.{item, items, brace, closing, tail, trailer}
-use Rattle.grammar.specs.Lang.{Lang, Word, _·_, All}
-use Rattle.grammar.specs.Grammar.{solid}
-use Rattle.grammar.specs.Fits.{Follow, Any, End, Off, Next}
-use Rattle.grammar.specs.Pieces.{loose-is, blank-is}
-use Rattle.refusals.specs.Lines.{raw, known}
-use Rattle.places.specs.Saving.{Good, Way, Cut, taken, ended, peeked, Saved, Late, Open, bind-open}
-use Rattle.places.specs.SavingLeaves.{next-off, give-open, one-open, byte-open, skip-open, fixed-any, fixed-open, gap-open, lineEnd-open, name-open, eot-open, fork-open}
-use Rattle.places.specs.SavingRuns.{token-open, leading-open}
+use Rattle.text.specs.Place.{byteOf}
+use Rattle.text.specs.Outcome.{refused}
+use Rattle.image.specs.Reading.{reading}
+use Rattle.grammar.specs.Lang.{Lang, Word, Lit, _·_}
+use Rattle.grammar.specs.Grammar.{Mask, Side, Coordinate, Array, Header, Data, Closing, Format}
+use Rattle.claims.specs.Terms.{Begun, Opening, W, rows}
+use Rattle.refusals.specs.Terms.{Front, Sides, Third, Fourth, No}
+use Rattle.places.specs.Savable.{Savable, SavableLine, SavableDefine, BeforeWidth, Width, GoodSymbol, Stuck, Read}
+use Rattle.places.specs.EarliestWidth
+use Rattle.places.specs.EarliestRows
+use Rattle.places.specs.EarliestArray
+use Rattle.places.specs.EarliestData
+use Rattle.places.specs.EarliestEnd
+use Rattle.places.specs.EarliestOnce
 
--- how it begins does not matter
-pub bind-any : {E : Late} {A : Type 0} {p : Reader A} {F G : Follow} → Open E p F G → Open E p F Any
-unfolding Any
-bind-any {E} {A} {p} {F} {G} h = record { local = h .local; keeps = h .keeps; empty = λ t i a q k. tt; can = λ t i g. wider t i (byteOf i) (h .can t i g); saves = λ t i c e g q. saved t i c e (h .saves t i c e g q) }
-  where
-    wider : (t : List ℕ) (i : TextLocation) (n : ℕ) → Way p F G t i n → Way p F (λ r. Unit {0}) t i n
-    wider t i n w = record { text = w .text; value = w .value; end = w .end; same = w .same; far = w .far; reach = w .reach; inside = w .inside; reads = w .reads; begins = λ z u s k. tt }
+-- A text that is refused with number c at p: what stands in it, and what can still stand there. A part a number.
+pub record Earliest (text name pixels : List ℕ) (c : ℕ) (p : TextLocation) : Type 0 where
+  -- 1: the symbol is good, and leading lines and a width line with any token can stand there; or it is, in a buffer too
+  -- small for any, and what precedes it can; or it is the symbol that is refused
+  pub n1 : c ≡ 1
+      → ((6 ≤ length name) × GoodSymbol (length name) text
+      × SavableLine text p (BeforeWidth (length name)) (Width (length name)))
+      ⊎ (((length name < 6) × GoodSymbol (length name) text × Savable text p (Begun Opening))
+      ⊎ Stuck (length name) text p)
+  -- 2: a width line stands there, and a height line with any token can
+  pub n2 : c ≡ 2
+      → (m : Mask) × Begun (Front (length name) (m .name) (Side (m .width))) text
+      × SavableDefine text p (Front (length name) (m .name) (Side (m .width))) (Word (m .name ++ ascii "_height"))
+  -- 3: the sides do, and a line for `_x_hot` can
+  pub n3 : c ≡ 3
+      → (m : Mask) × Begun (Sides (length name) m) text
+      × SavableDefine text p (Sides (length name) m) (Word (m .name ++ ascii "_x_hot"))
+  -- 4: that line does, and one for `_y_hot` can
+  pub n4 : c ≡ 4
+      → (m : Mask) × (x : ℤ) × Begun (Third (length name) m (Coordinate x)) text
+      × SavableDefine text p (Third (length name) m (Coordinate x)) (Word (m .name ++ ascii "_y_hot"))
+  -- 5: the sides do and no `#` after them, or the hotspot's lines do; and an array line can
+  pub n5 : c ≡ 5
+      → ((m : Mask) × Begun (Sides (length name) m) text × No (Sides (length name) m · Lit "#") text
+      × Savable text p (Begun (Sides (length name) m · Array (m .name))))
+      ⊎ ((m : Mask) × (x : ℤ) × (y : ℤ) × Begun (Fourth (length name) m x (Coordinate y)) text
+      × Savable text p (Begun (Fourth (length name) m x (Coordinate y) · Array (m .name))))
+  -- 6: the header does, and all the data bytes that are read can
+  pub n6 : c ≡ 6
+      → (m : Mask) × (k : ℕ) × Read m pixels k × Begun (Header (length name) m) text
+      × Savable text p (λ t. (l : List ℕ) × (length l ≡ k) × Begun (Header (length name) m · Data l) t)
+  -- 7: the header and all data bytes do, and the closing can
+  pub n7 : c ≡ 7
+      → (m : Mask) × (m .height ≤ rows m pixels) × (length (m .bytes) ≡ W m * m .height)
+      × Begun (Header (length name) m · Data (m .bytes)) text
+      × Savable text p (Begun (Header (length name) m · Data (m .bytes) · Closing))
+  -- 8: the closing does, and the text can be one of the format
+  pub n8 : c ≡ 8
+      → (m : Mask) × (m .height ≤ rows m pixels) × (length (m .bytes) ≡ W m * m .height)
+      × Begun (Header (length name) m · Data (m .bytes) · Closing) text × Savable text p (Format (length name) m)
 
-    saved : (t : List ℕ) (i : TextLocation) (c : ℕ) (e : TextLocation) → Saved p F G t i c e ⊎ E t c e → Saved p F (λ r. Unit {0}) t i c e ⊎ E t c e
-    saved t i c e (inl (n, l, k, w)) = inl (n, l, k, wider t i n w)
-    saved t i c e (inr x) = inr x
+pub earliest : (text name pixels : List ℕ) (c : ℕ) (p : TextLocation) → reading text name pixels .answer ≡ refused c p
+    → Earliest text name pixels c p
+earliest t name pixels c p q = record {
+  n1 = λ e. EarliestWidth.earliest-1 t name pixels p (rw e at q);
+  n2 = λ e. EarliestRows.earliest-2 t name pixels p (rw e at q);
+  n3 = λ e. EarliestRows.earliest-3 t name pixels p (rw e at q);
+  n4 = λ e. EarliestRows.earliest-4 t name pixels p (rw e at q);
+  n5 = λ e. EarliestArray.earliest-5 t name pixels p (rw e at q);
+  n6 = λ e. EarliestData.earliest-6 t name pixels p (rw e at q);
+  n7 = λ e. EarliestData.earliest-7 t name pixels p (rw e at q);
+  n8 = λ e. EarliestEnd.earliest-8 t name pixels p (rw e at q);
+}
 
--- ---- the define lines, with any token
+-- Why a name buffer below 6 bytes stands apart: with it no text at all begins with a width line.
+pub cramped : (limit : ℕ) (text : List ℕ) → limit < 6 → Width limit text → ⊥
+cramped = EarliestWidth.no-room
 
-pub raw-open : {E : Late} (c : ℕ) {F G : Follow} → c ≤ 4 → ((r : List ℕ) → G (32 ∷ r)) → Open E (raw c) F G
-unfolding raw isBlank Any
-raw-open c four b = bind-open {F = Next 10} (gap-open c (next-off isBlank 10 refl) b) (λ a. bind-open {F = Next 10} (token-open c 10 four (next-off solid 10 refl)) (λ w. bind-open (lineEnd-open c {F = Any}) (λ b. give-open w (λ r h. tt))))
+-- That fixes the place: of one text no two places can both be so, whatever is to stand there.
+pub once : (L : Lang) (text : List ℕ) (p q : TextLocation) → Savable text p L → Savable text q L → byteOf p ≡ byteOf q
+once = EarliestOnce.once
 
-pub known-open : {E : Late} (c : ℕ) (name z : List ℕ) {F : Follow} → c ≤ 4 → All solid name → Open E (known c name (95 ∷ z)) F (Next 35)
-unfolding known Next Any
-known-open c name z four s =
-    bind-open {F = Any} (fixed-open c 35 (ascii "define") (λ r. refl)) (λ a. bind-open {F = Off isBlank} (gap-open c (λ r h. h) (λ r. tt)) (λ a. bind-open {F = Next 95} (name-open c name s) (λ a. bind-open {F = Any} (fixed-open c 95 z (λ r. refl)) (λ a. raw-open c four (λ r. tt)))))
-
--- ---- the array line
-
-pub array-open : {E : Late} (c : ℕ) (name : List ℕ) {F : Follow} → All solid name → Open E (arrayLine c name) F (Next 115)
-unfolding arrayLine element Next Any isBlank
-array-open c name s =
-    bind-open {F = Any} (fixed-open c 115 (ascii "tatic") (λ r. refl)) (λ a. bind-open {F = Off isBlank} (gap-open c (λ r h. h) (λ r. tt)) (λ a. bind-open {F = Any} element-open (λ a. bind-open {F = Off isBlank} (gap-open c (λ r h. h) (λ r. tt)) (λ a. bind-open {F = Next 95} (name-open c name s) (λ a. bind-open {F = Any} (fixed-open c 95 (ascii "bits[]") (λ r. refl)) (λ a. bind-open {F = Next 61} (gap-open c (next-off isBlank 61 refl) (λ r. tt)) (λ a. bind-open {F = Any} (fixed-open c 61 [] (λ r. refl)) (λ a. bind-open {F = Next 123} (gap-open c (next-off isBlank 123 refl) (λ r. tt)) (λ a. fixed-open c 123 [] (λ r. refl))))))))))
-  where
-    element-open : {E : Late} → Open E (fork c 99 (fixed c (ascii "char")) 117 (fixed c (ascii "unsigned") >> gap c >> fixed c (ascii "char"))) Any (Off isBlank)
-    element-open = fork-open c 99 117 (fixed-open c 99 (ascii "har") (λ r. refl)) (bind-open {F = Any} (fixed-open c 117 (ascii "nsigned") (λ r. refl)) (λ a. bind-open {F = Next 99} (gap-open c (next-off isBlank 99 refl) (λ r. tt)) (λ a. fixed-open c 99 (ascii "har") (λ r. refl)))) (search (firms, line-laws) depth 20 fits 5000) (search (firms, line-laws) depth 20 fits 5000) (search (firms, line-laws) depth 20 fits 5000) (search (firms, line-laws) depth 20 fits 5000) (λ r. off 99 r refl) (λ r. off 117 r refl) refl
-      where
-        off : (x : ℕ) (r : List ℕ) → isBlank x ≡ false → Off isBlank (x ∷ r)
-        off x r q = unfold Off in q
-
--- ---- data bytes
-
-loose-off : (x : ℕ) → isLoose x ≡ false → (r : List ℕ) → Next x r → Off isLoose r
-loose-off x q = next-off isLoose x q
-
-digits-open : {E : Late} (c n v : ℕ) {F : Follow} → Open E (hexDigits c n v) F Any
-unfolding hexDigits hexDigit hexv hexOf Any
-digits-open c zero v = give-open v (λ r h. tt)
-digits-open c (suc n) v = bind-open {F = Any} (one-open c hexv 48 0 refl (λ r. tt)) (λ d. digits-open c n _)
-
-unit-open : {E : Late} (c n : ℕ) {F : Follow} → Open E (hexUnit c n) F (Next 48)
-unfolding hexUnit hexStart hexDigit hexv hexOf isMark Any Next
-unit-open c n = bind-open {F = Any} (bind-open {F = Any} (fixed-open c 48 [] (λ r. refl)) (λ a. byte-open c isMark 120 refl (λ r. tt))) (λ a. bind-open {F = Any} (one-open c hexv 48 0 refl (λ r. tt)) (λ d. digits-open c n d))
-
-pub item-open : {E : Late} (f : Bool) {F : Follow} → Open E (item f) F Any
-unfolding item isLoose isBlank Next Any
-item-open true = bind-any (bind-open {F = Next 48} (skip-open isLoose (loose-off 48 refl)) (λ a. unit-open 6 1))
-item-open false = bind-any (bind-open {F = Next 44} (skip-open isLoose (loose-off 44 refl)) (λ a. bind-open {F = Next 48} (byte-open 6 (is 44) 44 refl (λ r. refl)) (λ a. bind-open {F = Next 48} (skip-open isLoose (loose-off 48 refl)) (λ a. unit-open 6 1))))
-
-pub items-open : {E : Late} (k : ℕ) (f : Bool) {F : Follow} → Open E (items k f) F Any
-unfolding items Any
-items-open zero f = give-open [] (λ r h. tt)
-items-open (suc k) f = bind-open {F = Any} (item-open f) (λ b. bind-open {F = Any} (items-open k false) (λ l. give-open (b ∷ l) (λ r h. tt)))
-
--- ---- the closing, and what follows it
-
-brace-open : {E : Late} {F : Follow} → Open E brace F (Off isLoose)
-unfolding brace isLoose isBlank Next Any Off
-brace-open = fork-open 7 44 125 (bind-open {F = Next 125} (byte-open 7 (is 44) 44 refl (λ r. refl)) (λ a. bind-open {F = Next 125} (skip-open isLoose (loose-off 125 refl)) (λ a. fixed-open 7 125 [] (λ r. refl)))) (fixed-open 7 125 [] (λ r. refl)) (search firms depth 20 fits 5000) (search firms depth 20 fits 5000) (search firms depth 20 fits 5000) (search firms depth 20 fits 5000) (λ r. refl) (λ r. refl) refl
-
-pub closing-open : {E : Late} {F : Follow} → Open E closing F (Off isLoose)
-unfolding closing isLoose isBlank Next
-closing-open = bind-open {F = Off isLoose} (skip-open isLoose (λ r h. h)) (λ a. bind-open {F = Next 59} brace-open (λ a. bind-open {F = Next 59} (skip-open isLoose (loose-off 59 refl)) (λ a. fixed-open 7 59 [] (λ r. refl))))
-
-pub tail-open : {E : Late} → Open E tail End End
-unfolding tail
-tail-open = bind-open {F = End} (skip-open isLoose end-off) (λ a. eot-open 8)
-  where
-    end-off : (r : List ℕ) → End r → Off isLoose r
-    end-off r h = unfold End Off in rw h tt
+pub once-line : (K L : Lang) (text : List ℕ) (p q : TextLocation) → SavableLine text p K L → SavableLine text q K L
+    → byteOf p ≡ byteOf q
+once-line K L t p q = EarliestOnce.once-line L t p q

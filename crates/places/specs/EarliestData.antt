@@ -1,35 +1,37 @@
 -- The earliest place of a refusal in the data bytes and in the closing: 6 and 7.
 use mathlib.Core.Path.{_≡_, refl, sym, ap, _∙_}
-use mathlib.Core.Logic.{_⊎_, inl, inr}
+use mathlib.Core.Logic.{_↔_, _⊎_, inl, inr}
 use Prim.Native.Nat.{ℕ, zero, suc, _+_, _*_, _/_, _≤_, _<_}
 use native.Mathlib.Omega.{arith}
-use mathlib.Core.Bool.{Bool, true, false}
+use mathlib.Core.Bool.{Bool, true, false, false≢true}
 use mathlib.Core.List.{List, [], _∷_, _++_, append-assoc}
-use lib.ListN.{length, take, drop}
+use lib.ListN.{length}
 use lib.Dec.{eqb, ltb}
+use borrow.Author.Tests.{eqb-true, ltb-true, ltb-false, le-ltb}
 use Rattle.text.specs.declared.TextLocation.{TextLocation}
-use Rattle.text.specs.Place.{byteOf, rest, start, past}
+use Rattle.text.specs.Place.{rest, start, past}
 use Rattle.text.specs.Reader.{Result, ok, stop, bad, then, Reader, _>>=_, _>>_}
 use Rattle.text.specs.Leaf.{give}
 use Rattle.text.specs.Outcome.{refused}
 use Rattle.header.specs.Header.{Head, header}
 use Rattle.decoder.specs.Data.{item, items, closing, tail, trailer}
+use Rattle.decoder.specs.Step.{rowBytes}
 use Rattle.image.specs.Rows.{count, mismatch, ending, whole}
 use Rattle.image.specs.Reading.{picture, reading}
 use Rattle.grammar.specs.Lang.{Lang, _·_}
 use Rattle.grammar.specs.Grammar.{Mask, Header, Data, Closing}
 use Rattle.grammar.specs.Bind.{bind-case, bind-ok, bind-stop}
-use Rattle.grammar.specs.Fits.{Follow, Any, At, Fits}
-use Rattle.grammar.specs.Devices.{headOf, made}
+use Rattle.grammar.specs.Fits.{Any, At, Fits}
+use Rattle.grammar.specs.Devices.{made}
 use Rattle.grammar.specs.Headers.{header-exactly}
 use Rattle.grammar.specs.Exact.{data-fits, closing-fits}
-use Rattle.claims.specs.Terms.{Begun}
-use Rattle.claims.specs.Numbers.{Numbered, numbers, header-numbered, items-numbered, item-numbered, trailer-numbered, closing-numbered, bind-numbered, give-numbered, placed-number}
+use Rattle.claims.specs.Terms.{Begun, W, rows}
+use Rattle.claims.specs.Numbers.{Numbered, numbers, header-numbered, items-numbered, item-numbered, trailer-numbered, bind-numbered, give-numbered, placed-number}
 use Rattle.claims.specs.Mismatch.{zero-test}
 use Rattle.refusals.specs.Stages.{stop-first, stop-second, at-both, at-parts, read-at, begun}
-use Rattle.places.specs.Saving.{Late, Open}
-use Rattle.places.specs.Earliest.{bind-any, items-open, closing-open}
-use Rattle.places.specs.EarliestRows.{Savable, never, Never, told-picture, at-line}
+use Rattle.places.specs.Savable.{Savable, Read}
+use Rattle.places.specs.SavingParts.{bind-any, items-open, closing-open}
+use Rattle.places.specs.EarliestLift.{savable-same, told-picture, at-line}
 
 pub header-fits : (lim : ℕ) (h : Head) → Fits (header lim) h (Unit {0}) (Header lim (made h [])) Any
 header-fits lim h = record {
@@ -81,13 +83,20 @@ module _ (lim : ℕ) (k : Head → ℕ) where
           let s : items (k h) true t m ≡ ok l (past i w) = read-at (data-fits (k h) l) t m (past i w) .1 (y, v) in
           bind-ok (header lim) pairs t i h m p ∙ bind-ok (items (k h) true) (paired h) t m l (past i w) s
 
--- a kind of text that another is a kind of
-savable-as : {K L : Lang} (t : List ℕ) (c : ℕ) (e : TextLocation) → ((w : List ℕ) → K w → L w) → Savable t c e K → Savable t c e L
-savable-as t c e f s = let (w, r, q, k) = s .whole in record { kept = s .kept; cut = s .cut; others = s .others; whole = (w, r, q, f w k) }
+-- a header says nothing of the data bytes
+pub header-as : (lim : ℕ) (h : Head) (l w : List ℕ) → Header lim (made h []) w ↔ Header lim (made h l) w
+unfolding Header
+header-as lim h l w = ((λ k. k), λ k. k)
 
-both-closing : (lim : ℕ) (k : Head → ℕ) (h : Head) (l w : List ℕ) → (Both lim k (h, l) · Closing) w → (Header lim (made h []) · Data l · Closing) w
+both-closing : (lim : ℕ) (k : Head → ℕ) (h : Head) (l : List ℕ) → length l ≡ k h → (w : List ℕ) → (Both lim k (h, l) · Closing) w ↔ (Header lim (made h l) · Data l · Closing) w
 unfolding _·_
-both-closing lim k h l w (u, v, q, (x, (a, b, o, y, z)), c) = (a, b ++ v, q ∙ ap (λ (j : List ℕ). j ++ v) o ∙ append-assoc a b v, y, (b, v, refl, z, c))
+both-closing lim k h l n w = (
+  (λ (u, v, q, (x, (a, b, o, y, z)), c). (a, b ++ v, q ∙ ap (λ (j : List ℕ). j ++ v) o ∙ append-assoc a b v, header-as lim h l a .0 y, (b, v, refl, z, c))),
+  λ (a, b, q, y, (d, v, o, z, c)). (a ++ d, v, q ∙ ap (λ (j : List ℕ). a ++ j) o ∙ sym (append-assoc a d v), (n, (a, d, refl, header-as lim h l a .1 y, z)), c),
+)
+
+pub begun-as : (K L : Lang) (t : List ℕ) → ((w : List ℕ) → K w ↔ L w) → Begun K t ↔ Begun L t
+begun-as K L t f = ((λ (u, v, q, k). (u, v, q, f u .0 k)), λ (u, v, q, l). (u, v, q, f u .1 l))
 
 module _ (text name pixels : List ℕ) (p : TextLocation) where
   abbrev lim : ℕ
@@ -120,35 +129,69 @@ module _ (text name pixels : List ℕ) (p : TextLocation) where
   unfolding tail
   tail-8 = search numbers
 
-  -- 7 comes from the closing
-  from-closing : (e few f : Bool) (l : List ℕ) (m : TextLocation) → ending e few f l text m ≡ stop 7 p → closing text m ≡ stop 7 p
+  abbrev pub few : Head → Bool
+  few h = ltb (length pixels / h .width) (h .height)
+
+  -- the buffer has the picture's rows, or it has too few
+  pub enough : (h : Head) → few h ≡ false → (h .height ≤ length pixels / h .width) × (many h ≡ rowBytes (h .width) * h .height)
+  enough h q =
+      let l : h .height ≤ length pixels / h .width = ltb-false (length pixels / h .width) (h .height) q in
+      (l, ap (λ (k : ℕ). rowBytes (h .width) * k) (omega arith))
+
+  lacking : (h : Head) → few h ≡ true → (length pixels / h .width < h .height) × (rowBytes (h .width) * (length pixels / h .width) + 1 ≡ suc (many h))
+  lacking h q =
+      let l : length pixels / h .width < h .height = ltb-true (length pixels / h .width) (h .height) q in
+      (l, ap (λ (k : ℕ). rowBytes (h .width) * k + 1) (omega arith) ∙ and-one (many h))
+    where
+      and-one : (k : ℕ) → k + 1 ≡ suc k
+      and-one k = omega arith
+
+  -- 7 comes from the closing, and the rows are there
+  from-closing : (h : Head) (e d f : Bool) → eqb (length pixels / h .width) (h .height) ≡ e → few h ≡ d → (l : List ℕ) (m : TextLocation) → ending e d f l text m ≡ stop 7 p → (few h ≡ false) × (closing text m ≡ stop 7 p)
   unfolding trailer
-  from-closing true few f l m q = stop-first closing (λ a. tail) 7 text m (λ a. tail-8) (λ a b. omega arith) p .0 (stop-first (closing >> tail) (λ a. give l) 7 text m (λ a. give-numbered {lo = 1} {hi = 0} {x = 1} {y = 0} l) (λ a b. omega arith) p .0 q)
-  from-closing false true f l m q = absurd (omega (arith, placed-number (bind-numbered (item-numbered {lo = 6} {hi = 6} {x = 31} {y = 31} f refl) (λ b. none-numbered)) text m 7 p q))
+  from-closing h true d f a b l m q = (
+    le-ltb (length pixels / h .width) (h .height) (omega (arith, eqb-true (length pixels / h .width) (h .height) a)),
+    stop-first closing (λ a. tail) 7 text m (λ a. tail-8) (λ a b. omega arith) p .0 (stop-first (closing >> tail) (λ a. give l) 7 text m (λ a. give-numbered {lo = 1} {hi = 0} {x = 1} {y = 0} l) (λ a b. omega arith) p .0 q),
+  )
+  from-closing h false true f a b l m q = absurd (omega (arith, placed-number (bind-numbered (item-numbered {lo = 6} {hi = 6} {x = 31} {y = 31} f refl) (λ b. none-numbered)) text m 7 p q))
     where
       none-numbered : Numbered 6 6 31 31 mismatch
       none-numbered = search numbers
-  from-closing false false f l m q = stop-first closing (λ a. tail) 7 text m (λ a. tail-8) (λ a b. omega arith) p .0 (stop-first (closing >> tail) (λ a. mismatch) 7 text m (λ a. none-numbered) (λ a b. omega arith) p .0 q)
+  from-closing h false false f a b l m q = (b, stop-first closing (λ a. tail) 7 text m (λ a. tail-8) (λ a b. omega arith) p .0 (stop-first (closing >> tail) (λ a. mismatch) 7 text m (λ a. none-numbered) (λ a b. omega arith) p .0 q))
     where
       none-numbered : Numbered 1 0 31 31 mismatch
       none-numbered = search numbers
 
   -- 7: the header and the data bytes stand there, and a closing can after them
-  pub earliest-7 : reading text name pixels .answer ≡ refused 7 p → (h : Head) × (l : List ℕ) × (length l ≡ many h) × Savable text 7 p (Header lim (made h []) · Data l · Closing)
+  pub earliest-7 : reading text name pixels .answer ≡ refused 7 p
+      → (m : Mask) × (m .height ≤ rows m pixels) × (length (m .bytes) ≡ W m * m .height) × Begun (Header lim m · Data (m .bytes)) text × Savable text p (Begun (Header lim m · Data (m .bytes) · Closing))
   earliest-7 q =
       let (h, m, u, x) = headed 7 (omega arith) q in
       let (l, n, v, y) = stop-second (items (many h) true) (tests h) 7 text m (items-numbered {lo = 6} {hi = 6} {x = 1} {y = 0} (many h) true refl) (λ a b. omega arith) .0 (p, x) in
-      let z : closing text n ≡ stop 7 p = from-closing (eqb (length pixels / h .width) (h .height)) (ltb (length pixels / h .width) (h .height)) (eqb (many h) 0) l n (sym (bind-ok (items (many h) true) (tests h) text m l n v) ∙ x) in
-      let (b, o, s) = never (at-line {E = Never} (both lim many) (λ a. closing) (λ a b. give a) (Both lim many) (λ a. Unit {0}) (λ b. Unit {0}) (λ a b. Closing) (both-fits lim many) (λ a w k. tt) (λ a s b. closing-fits) (λ a s. bind-any closing-open) text 7 p (h, l) n (both-ok lim many text start h m l n u v) z) in
-      (h, l, data-fits (many h) l .to text m n v .0, savable-as text 7 p (both-closing lim many h l) s)
+      let (w, z) = from-closing h (eqb (length pixels / h .width) (h .height)) (few h) (eqb (many h) 0) refl refl l n (sym (bind-ok (items (many h) true) (tests h) text m l n v) ∙ x) in
+      let (k, r) = enough h w in
+      let (j, d) = data-fits (many h) l .to text m n v in
+      let s = at-line (both lim many) (λ a. closing) (λ a b. give a) (Both lim many) (λ a. Unit {0}) (λ b. Unit {0}) (λ a b. Closing) (both-fits lim many) (λ a w k. tt) (λ a s b. closing-fits) (λ a s. bind-any closing-open) text 7 p (h, l) n (both-ok lim many text start h m l n u v) z in (
+        made h l,
+        k,
+        j ∙ r,
+        begun (Header lim (made h l) · Data l) text .0 (n, at-both (Header lim (made h l)) (Data l) text start m n (header-exactly lim (made h l) text start m .0 u) d),
+        savable-same text p (λ y. (
+          (λ (b, o, c). begun-as (Both lim many (h, l) · Closing) (Header lim (made h l) · Data l · Closing) y (both-closing lim many h l j) .0 c),
+          λ c. (tt, tt, begun-as (Both lim many (h, l) · Closing) (Header lim (made h l) · Data l · Closing) y (both-closing lim many h l j) .1 c),
+        )) s,
+      )
 
   -- where k data bytes are not read, k can still stand there
-  still : (k : ℕ) (h : Head) (m : TextLocation) → header lim text start ≡ ok h m → items k true text m ≡ stop 6 p → (l : List ℕ) × (length l ≡ k) × Savable text 6 p (Header lim (made h []) · Data l)
+  still : (k : ℕ) (h : Head) (m : TextLocation) → header lim text start ≡ ok h m → items k true text m ≡ stop 6 p → Savable text p (λ t. (l : List ℕ) × (length l ≡ k) × Begun (Header lim (made h []) · Data l) t)
   still k h m u x =
-      never (at-line {E = Never} (header lim) (λ g. items k true) (λ g l. give l) (λ g. Header lim (made g [])) (λ g. Unit {0}) (λ l. length l ≡ k) (λ g l. Data l) (header-fits lim) (λ a w k. tt) (λ g s l. data-fits k l) (λ g s. items-open k true) text 6 p h m u x)
+      at-line (header lim) (λ g. items k true) (λ g l. give l) (λ g. Header lim (made g [])) (λ g. Unit {0}) (λ l. length l ≡ k) (λ g l. Data l) (header-fits lim) (λ a w k. tt) (λ g s l. data-fits k l) (λ g s. items-open k true) text 6 p h m u x
 
-  -- 6 comes from those bytes, or, with too few rows, from the one after them
-  source-6 : reading text name pixels .answer ≡ refused 6 p → (h : Head) × (m : TextLocation) × (header lim text start ≡ ok h m) × ((items (many h) true text m ≡ stop 6 p) ⊎ ((l : List ℕ) × (n : TextLocation) × (items (many h) true text m ≡ ok l n) × (item (eqb (many h) 0) text n ≡ stop 6 p)))
+  -- 6 comes from the data bytes of the rows, or, with too few rows, from the one after them
+  abbrev Next6 : Head → TextLocation → Type 0
+  Next6 h m = (l : List ℕ) × (n : TextLocation) × (items (many h) true text m ≡ ok l n) × (few h ≡ true) × (item (eqb (many h) 0) text n ≡ stop 6 p)
+
+  source-6 : reading text name pixels .answer ≡ refused 6 p → (h : Head) × (m : TextLocation) × (header lim text start ≡ ok h m) × ((items (many h) true text m ≡ stop 6 p) ⊎ Next6 h m)
   unfolding _>>=_
   source-6 q =
       let (h, m, u, x) = headed 6 (omega arith) q in
@@ -163,16 +206,16 @@ module _ (text name pixels : List ℕ) (p : TextLocation) where
           trailer-78 : Numbered 7 8 31 31 trailer
           trailer-78 = search (numbers, trailer-numbered)
 
-      by : (e few f : Bool) (l : List ℕ) (n : TextLocation) → ending e few f l text n ≡ stop 6 p → item f text n ≡ stop 6 p
-      by true few f l n x = absurd (omega (arith, placed-number (trailer-7 (λ a. give-numbered l)) text n 6 p x))
-      by false true f l n x = stop-first (item f) (λ b. mismatch) 6 text n (λ b. none-numbered) (λ a b. omega arith) p .0 x
+      by : (e d f : Bool) (l : List ℕ) (n : TextLocation) → ending e d f l text n ≡ stop 6 p → (d ≡ true) × (item f text n ≡ stop 6 p)
+      by true d f l n x = absurd (omega (arith, placed-number (trailer-7 (λ a. give-numbered l)) text n 6 p x))
+      by false true f l n x = (refl, stop-first (item f) (λ b. mismatch) 6 text n (λ b. none-numbered) (λ a b. omega arith) p .0 x)
       by false false f l n x = absurd (omega (arith, placed-number (trailer-7 (λ a. rest-31)) text n 6 p x))
         where
           rest-31 : Numbered 7 8 31 31 mismatch
           rest-31 = search numbers
 
-      go : (h : Head) (m : TextLocation) (r : Result (List ℕ)) → items (many h) true text m ≡ r → then r (λ l e. tests h l text e) ≡ stop 6 p → (items (many h) true text m ≡ stop 6 p) ⊎ ((l : List ℕ) × (n : TextLocation) × (items (many h) true text m ≡ ok l n) × (item (eqb (many h) 0) text n ≡ stop 6 p))
-      go h m (ok l n) u x = inr (l, n, u, by (eqb (length pixels / h .width) (h .height)) (ltb (length pixels / h .width) (h .height)) (eqb (many h) 0) l n x)
+      go : (h : Head) (m : TextLocation) (r : Result (List ℕ)) → items (many h) true text m ≡ r → then r (λ l e. tests h l text e) ≡ stop 6 p → (items (many h) true text m ≡ stop 6 p) ⊎ Next6 h m
+      go h m (ok l n) u x = let (w, z) = by (eqb (length pixels / h .width) (h .height)) (few h) (eqb (many h) 0) l n x in inr (l, n, u, w, z)
       go h m (stop d n) u x = inl (u ∙ cc)
       go h m (bad d n) u x = let z : _≡_ {A = ℕ} 0 1 = cc in absurd (omega arith)
 
@@ -190,13 +233,36 @@ module _ (text name pixels : List ℕ) (p : TextLocation) where
       last : (c : ℕ) (j : TextLocation) → item f text i ≡ ok c j → items (suc k) false text j ≡ stop 6 p → (item f >>= λ b. items (suc k) false >>= λ l. give (b ∷ l)) text i ≡ stop 6 p
       last c j q1 z = bind-ok (item f) (λ b. items (suc k) false >>= λ l. give (b ∷ l)) text i c j q1 ∙ bind-stop (items (suc k) false) (λ l. give (c ∷ l)) text j 6 p z
 
-  -- 6: the data bytes that are read can all still stand there: those of the buffer's rows, and with too few rows one more
-  pub earliest-6 : reading text name pixels .answer ≡ refused 6 p → (h : Head) × (l : List ℕ) × ((length l ≡ many h) ⊎ (length l ≡ suc (many h))) × Savable text 6 p (Header lim (made h []) · Data l)
-  earliest-6 q = let (h, m, u, x) = source-6 q in go h m u x
+  -- so many are refused: one more are
+  more-still : (k : ℕ) (f : Bool) (i : TextLocation) → items k f text i ≡ stop 6 p → items (suc k) f text i ≡ stop 6 p
+  unfolding items give _>>=_
+  more-still zero f i q = let z : _≡_ {A = ℕ} 0 1 = cc in absurd (omega arith)
+  more-still (suc k) f i q = go (more-still k false) (item f text i) refl q
     where
-      Both6 : Type 0
-      Both6 = (h : Head) × (l : List ℕ) × ((length l ≡ many h) ⊎ (length l ≡ suc (many h))) × Savable text 6 p (Header lim (made h []) · Data l)
+      within : (b : ℕ) (j : TextLocation) (r : Result (List ℕ)) → items k false text j ≡ r → then r (λ l e. ok (b ∷ l) e) ≡ stop 6 p → items k false text j ≡ stop 6 p
+      within b j (ok l e) u x = let z : _≡_ {A = ℕ} 0 1 = cc in absurd (omega arith)
+      within b j (stop d e) u x = u ∙ cc
+      within b j (bad d e) u x = let z : _≡_ {A = ℕ} 0 1 = cc in absurd (omega arith)
 
-      go : (h : Head) (m : TextLocation) → header lim text start ≡ ok h m → (items (many h) true text m ≡ stop 6 p) ⊎ ((l : List ℕ) × (n : TextLocation) × (items (many h) true text m ≡ ok l n) × (item (eqb (many h) 0) text n ≡ stop 6 p)) → Both6
-      go h m u (inl x) = let (l, y, s) = still (many h) h m u x in (h, l, inl y, s)
-      go h m u (inr (v, n, x, z)) = let (l, y, s) = still (suc (many h)) h m u (one-more (many h) true (eqb (many h) 0) m v n (λ e. zero-test (many h) .0 e) (λ e. zero-test (many h) .1 e) x z) in (h, l, inr y, s)
+      go : ((j : TextLocation) → items k false text j ≡ stop 6 p → items (suc k) false text j ≡ stop 6 p) → (r : Result ℕ) → item f text i ≡ r → then r (λ b j. then (items k false text j) (λ l e. ok (b ∷ l) e)) ≡ stop 6 p → then (item f text i) (λ b j. then (items (suc k) false text j) (λ l e. ok (b ∷ l) e)) ≡ stop 6 p
+      go g (ok b j) u x = rw (u, g j (within b j (items k false text j) refl x)) refl
+      go g (stop d e) u x = rw u x
+      go g (bad d e) u x = let z : _≡_ {A = ℕ} 0 1 = cc in absurd (omega arith)
+
+  -- 6: all the data bytes that are read can still stand there
+  abbrev Saved6 : Type 0
+  Saved6 = (m : Mask) × (k : ℕ) × Read m pixels k × Begun (Header lim m) text × Savable text p (λ t. (l : List ℕ) × (length l ≡ k) × Begun (Header lim m · Data l) t)
+
+  pub earliest-6 : reading text name pixels .answer ≡ refused 6 p → Saved6
+  earliest-6 q = let (h, m, u, x) = source-6 q in go h m u (few h) refl x
+    where
+      told : (h : Head) (m : TextLocation) → header lim text start ≡ ok h m → (k : ℕ) → Read (made h []) pixels k → items k true text m ≡ stop 6 p → Saved6
+      told h m u k r x = (made h [], k, r, begun (Header lim (made h [])) text .0 (m, header-exactly lim (made h []) text start m .0 u), still k h m u x)
+
+      go : (h : Head) (m : TextLocation) → header lim text start ≡ ok h m → (d : Bool) → few h ≡ d → (items (many h) true text m ≡ stop 6 p) ⊎ Next6 h m → Saved6
+      go h m u false w (inl x) = let (a, b) = enough h w in told h m u (rowBytes (h .width) * h .height) (inl (a, refl)) (ap (λ (k : ℕ). items k true text m) (sym b) ∙ x)
+      go h m u false w (inr (l, n, x, y, z)) = absurd (false≢true (sym w ∙ y))
+      go h m u true w (inl x) = let (a, b) = lacking h w in told h m u (rowBytes (h .width) * (length pixels / h .width) + 1) (inr (a, refl)) (ap (λ (k : ℕ). items k true text m) b ∙ more-still (many h) true m x)
+      go h m u true w (inr (l, n, x, y, z)) =
+          let (a, b) = lacking h w in
+          told h m u (rowBytes (h .width) * (length pixels / h .width) + 1) (inr (a, refl)) (ap (λ (k : ℕ). items k true text m) b ∙ one-more (many h) true (eqb (many h) 0) m l n (λ e. zero-test (many h) .0 e) (λ e. zero-test (many h) .1 e) x z)

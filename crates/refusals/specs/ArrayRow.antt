@@ -31,16 +31,16 @@ use Rattle.refusals.specs.HeaderRows.{told-stop, first}
 use Rattle.refusals.specs.HotspotRows.{Three, second, Both, second-fits, further, header-second, hot, plain, is-next, hashed, unhashed, second-numbered, after-x, Four, third, Crossed, third-fits, crossed-name, hash, maskOf, threeOf}
 
 -- the header up to the end of the hotspot's lines
-abbrev Five : Type 0
+abbrev pub Five : Type 0
 Five = Four × ℤ
 
-unfoldable fourth : ℕ → Reader Five
+unfoldable pub fourth : ℕ → Reader Five
 fourth limit = third limit >>= λ b. line 4 (b .0 .0 .0) (ascii "_y_hot") (signed 14) >>= λ y. give (b, y)
 
-abbrev Spotted : ℕ → Five → Lang
+abbrev pub Spotted : ℕ → Five → Lang
 Spotted limit c = Crossed limit (c .0) · Define (Word (c .0 .0 .0 .0 ++ ascii "_y_hot")) (Coordinate (c .1))
 
-fourth-fits : (limit : ℕ) (c : Five) → Fits (fourth limit) c (Unit {0}) (Spotted limit c) Any
+pub fourth-fits : (limit : ℕ) (c : Five) → Fits (fourth limit) c (Unit {0}) (Spotted limit c) Any
 unfolding fourth
 fourth-fits limit (b0, y0) =
     fit-drop (fit-bind b0 (λ b. Unit {0}) (Crossed limit) (λ b. Define (Word (b .0 .0 .0 ++ ascii "_y_hot")) (Coordinate y0)) (λ b. All solid (b .0 .0 .0)) (third-fits limit) (crossed-name limit) begins-any (λ b s.
@@ -50,14 +50,14 @@ fourth-fits limit (b0, y0) =
     there b y (p, (q, u)) = rw (p, q)
 
 -- the array line after them
-abbrev done : Five → Reader Head
+abbrev pub done : Five → Reader Head
 done c = ending (c .0 .0 .0 .0) (c .0 .0 .0 .1) (c .0 .0 .1) (some (c .0 .1, c .1))
 
-fourth-hot : (limit : ℕ) → (second limit >>= hot) ≡ (fourth limit >>= done)
+pub fourth-hot : (limit : ℕ) → (second limit >>= hot) ≡ (fourth limit >>= done)
 unfolding third fourth
 fourth-hot limit = sym (chain _ _ (λ b. after-x (b .0) (b .1)) (λ a. chain _ _ _ (λ x. given (a, x) (λ b. after-x (b .0) (b .1))))) ∙ sym (chain (third limit) _ done (λ b. chain _ _ done (λ y. given (b, y) done)))
 
-fourth-numbered : (limit : ℕ) → Numbered 1 4 11 22 (fourth limit)
+pub fourth-numbered : (limit : ℕ) → Numbered 1 4 11 22 (fourth limit)
 unfolding fourth third second first widthLine
 fourth-numbered limit = search numbers depth 80 fits 40000
 

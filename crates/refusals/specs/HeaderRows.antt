@@ -113,7 +113,7 @@ front-numbered : (limit : ℕ) → Numbered 1 1 1 0 (front limit)
 unfolding front widths raw
 front-numbered limit = search numbers depth 40 fits 10000
 
-wide-numbered : (p : List ℕ × List ℕ) → Numbered 2 5 11 22 (wide p >>= next)
+pub wide-numbered : (p : List ℕ × List ℕ) → Numbered 2 5 11 22 (wide p >>= next)
 unfolding rest arrayLine element
 wide-numbered p = search numbers depth 80 fits 40000
 
@@ -185,7 +185,7 @@ pub front-name : (limit : ℕ) (name : List ℕ) (N : Lang) (w : List ℕ) → F
 unfolding Define Symbol _·_
 front-name limit name N w (a, b, q, k, (u, v, o, l, (u1, v1, q1, k1, (u2, v2, q2, k2, m)))) = k2 .1
 
-first-numbered : (limit : ℕ) → Numbered 1 1 11 22 (first limit)
+pub first-numbered : (limit : ℕ) → Numbered 1 1 11 22 (first limit)
 unfolding first widthLine
 first-numbered limit = search numbers depth 40 fits 10000
 
@@ -199,7 +199,7 @@ heights name = known 2 name (ascii "_height")
 next-is : (nw : List ℕ × ℕ) → next nw ≡ (heights (nw .0) >>= high nw)
 next-is nw = ap (λ (p : Reader ℕ). p >>= λ h. rest (nw .0) (nw .1) h) (sym (line-is 2 (nw .0) (ascii "_height") (side 12 22))) ∙ assoc (heights (nw .0)) (side 12 22) (rest (nw .0) (nw .1))
 
-header-next : (limit : ℕ) → header limit ≡ (first limit >>= λ nw. heights (nw .0) >>= high nw)
+pub header-next : (limit : ℕ) → header limit ≡ (first limit >>= λ nw. heights (nw .0) >>= high nw)
 unfolding header first
 header-next limit = sym (assoc (leading 1 true) (λ a. widthLine limit) next) ∙ ap (λ (f : List ℕ × ℕ → Reader Head). (leading 1 true >> widthLine limit) >>= f) (λ i nw. next-is nw i)
 
@@ -207,7 +207,7 @@ heights-numbered : (name : List ℕ) → Numbered 2 2 1 0 (heights name)
 unfolding known raw
 heights-numbered name = search numbers depth 40 fits 10000
 
-high-numbered : (nw : List ℕ × ℕ) (w : List ℕ) → Numbered 3 5 12 22 (high nw w)
+pub high-numbered : (nw : List ℕ × ℕ) (w : List ℕ) → Numbered 3 5 12 22 (high nw w)
 unfolding rest arrayLine element
 high-numbered nw w = search numbers depth 80 fits 40000
 

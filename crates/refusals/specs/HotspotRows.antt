@@ -106,25 +106,25 @@ module _ (a : Three) (t : List ℕ) (m : TextLocation) where
 
 -- ---- the line for `_x_hot`
 
-abbrev hot-x : List ℕ → Reader (List ℕ)
+abbrev pub hot-x : List ℕ → Reader (List ℕ)
 hot-x name = known 3 name (ascii "_x_hot")
 
 -- what is made of its token
-abbrev left : Three → List ℕ → Reader Head
+abbrev pub left : Three → List ℕ → Reader Head
 left a w = signed 13 w >>= λ x. line 4 (a .0 .0) (ascii "_y_hot") (signed 14) >>= λ y. ending (a .0 .0) (a .0 .1) (a .1) (some (x, y))
 
-hot-is : (a : Three) → hot a ≡ (hot-x (a .0 .0) >>= left a)
+pub hot-is : (a : Three) → hot a ≡ (hot-x (a .0 .0) >>= left a)
 hot-is a = ap (λ (p : Reader ℤ). p >>= λ x. line 4 (a .0 .0) (ascii "_y_hot") (signed 14) >>= λ y. ending (a .0 .0) (a .0 .1) (a .1) (some (x, y))) (sym (line-is 3 (a .0 .0) (ascii "_x_hot") (signed 13))) ∙ assoc (hot-x (a .0 .0)) (signed 13) _
 
 hot-x-numbered : (name : List ℕ) → Numbered 3 3 1 0 (hot-x name)
 unfolding known raw
 hot-x-numbered name = search numbers depth 40 fits 10000
 
-left-numbered : (a : Three) (w : List ℕ) → Numbered 4 5 13 14 (left a w)
+pub left-numbered : (a : Three) (w : List ℕ) → Numbered 4 5 13 14 (left a w)
 unfolding arrayLine element
 left-numbered a w = search numbers depth 80 fits 40000
 
-plain-numbered : (a : Three) → Numbered 5 5 1 0 (plain a)
+pub plain-numbered : (a : Three) → Numbered 5 5 1 0 (plain a)
 unfolding arrayLine element
 plain-numbered a = search numbers depth 80 fits 40000
 
@@ -161,7 +161,7 @@ module _ (limit : ℕ) (a : Three) (t : List ℕ) (m : TextLocation) (s : All so
           other (inr (p, u)) = let z : _≡_ {A = ℕ} 0 1 = cc in absurd (omega arith)
 
   -- a number before 5
-  hot-stop : (c : ℕ) → c ≤ 4 → ((q : TextLocation) × (further a t m ≡ stop c q)) ↔ (Next 35 (restAt t m) × ((q : TextLocation) × (hot a t m ≡ stop c q)))
+  pub hot-stop : (c : ℕ) → c ≤ 4 → ((q : TextLocation) × (further a t m ≡ stop c q)) ↔ (Next 35 (restAt t m) × ((q : TextLocation) × (hot a t m ≡ stop c q)))
   hot-stop c l = ((λ (q, x). there q x (is-next 35 (restAt t m))), λ (k, (q, x)). (q, hashed a t m k ∙ x))
     where
       there : (q : TextLocation) → further a t m ≡ stop c q → Dec (Next 35 (restAt t m)) → Next 35 (restAt t m) × ((q : TextLocation) × (hot a t m ≡ stop c q))
@@ -216,11 +216,11 @@ third-fits limit (a0, x0) =
 pub crossed-name : (limit : ℕ) (b : Four) (w : List ℕ) → Crossed limit b w → All solid (b .0 .0 .0)
 crossed-name limit b w k = unfold _·_ in (let (u, v, q, x, y) = k in both-name limit (b .0) u x)
 
-abbrev hot-y : List ℕ → Reader (List ℕ)
+abbrev pub hot-y : List ℕ → Reader (List ℕ)
 hot-y name = known 4 name (ascii "_y_hot")
 
 -- what is made of its token
-abbrev right : Four → List ℕ → Reader Head
+abbrev pub right : Four → List ℕ → Reader Head
 right b w = signed 14 w >>= λ y. ending (b .0 .0 .0) (b .0 .0 .1) (b .0 .1) (some (b .1, y))
 
 pub after-x-is : (a : Three) (x : ℤ) → after-x a x ≡ (hot-y (a .0 .0) >>= right (a, x))
@@ -229,7 +229,7 @@ after-x-is a x = ap (λ (p : Reader ℤ). p >>= λ y. ending (a .0 .0) (a .0 .1)
 second-hot : (limit : ℕ) → (second limit >>= hot) ≡ (second limit >>= λ a. hot-x (a .0 .0) >>= left a)
 second-hot limit = ap (λ (f : Three → Reader Head). second limit >>= f) (λ i a. hot-is a i)
 
-third-hot : (limit : ℕ) → (second limit >>= hot) ≡ (third limit >>= λ b. hot-y (b .0 .0 .0) >>= right b)
+pub third-hot : (limit : ℕ) → (second limit >>= hot) ≡ (third limit >>= λ b. hot-y (b .0 .0 .0) >>= right b)
 unfolding third
 third-hot limit = sym (chain _ _ _ (λ a. chain _ _ _ (λ x. given (a, x) (λ b. hot-y (b .0 .0 .0) >>= right b) ∙ sym (after-x-is a x))))
 
@@ -237,11 +237,11 @@ hot-y-numbered : (name : List ℕ) → Numbered 4 4 1 0 (hot-y name)
 unfolding known raw
 hot-y-numbered name = search numbers depth 40 fits 10000
 
-right-numbered : (b : Four) (w : List ℕ) → Numbered 5 5 14 14 (right b w)
+pub right-numbered : (b : Four) (w : List ℕ) → Numbered 5 5 14 14 (right b w)
 unfolding arrayLine element
 right-numbered b w = search numbers depth 80 fits 40000
 
-third-numbered : (limit : ℕ) → Numbered 1 3 11 22 (third limit)
+pub third-numbered : (limit : ℕ) → Numbered 1 3 11 22 (third limit)
 unfolding third second first widthLine
 third-numbered limit = search numbers depth 80 fits 40000
 

@@ -127,7 +127,7 @@ front-fits limit (name, w) = fit-run leading-fits (define-begins _ _) (λ a. wid
 
 -- ---- the header is these lines, and what is made of their tokens
 
-value-is : {A : Type 0} (c : ℕ) (f : List ℕ → Reader A) → (raw c >>= f) ≡ value c f
+pub value-is : {A : Type 0} (c : ℕ) (f : List ℕ → Reader A) → (raw c >>= f) ≡ value c f
 unfolding raw
 value-is c f = chain _ _ _ (λ a. chain _ _ _ (λ w. chain _ _ _ (λ b. given w f)))
 

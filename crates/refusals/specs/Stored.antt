@@ -28,7 +28,7 @@ use Rattle.grammar.specs.Exact.{start-rest}
 use Rattle.claims.specs.Terms.{Opening, over}
 use Rattle.refusals.specs.Terms.{NotNext, Stores, unopened, opened}
 
-opening-fits : Fits opening tt (Unit {0}) Opening (Off blank)
+pub opening-fits : Fits opening tt (Unit {0}) Opening (Off blank)
 unfolding opening
 opening-fits = fit-run leading-fits (search begin) (λ a. fit-fixed 1 hashDefine (λ a. gap-fits 1))
 
@@ -100,12 +100,12 @@ bare t name pixels h = go (opening t start) refl
 
 -- ---- in the claim's words
 
-off : (g : ℕ → Bool) (l : List ℕ) → NotNext g l → Off g l
+pub off : (g : ℕ → Bool) (l : List ℕ) → NotNext g l → Off g l
 unfolding Off
 off g [] h = tt
 off g (b ∷ l) h = h
 
-not-next : (g : ℕ → Bool) (l : List ℕ) → Off g l → NotNext g l
+pub not-next : (g : ℕ → Bool) (l : List ℕ) → Off g l → NotNext g l
 unfolding Off
 not-next g [] h = tt
 not-next g (b ∷ l) h = h
