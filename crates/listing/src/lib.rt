@@ -16,11 +16,6 @@ use print::put_decimal;
 use print::put_signed;
 use text::TextLocation;
 
-// The limits of document 01's program: bytes of a text, cells of a picture.
-pub const TEXT_LIMIT: usize = 65536;
-
-pub const CELL_LIMIT: u64 = 65536;
-
 // The header and the ink of an accepted mask, or the refusal.
 pub enum ListAnswer {
     Accepted(XbmHeaderData, u64),

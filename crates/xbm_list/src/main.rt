@@ -4,9 +4,12 @@ ghost use lib.ListN.{length};
 ghost use Rattle.xbm_list.specs.Program.{ListsInput};
 use header::MAX_IDENTIFIER_LENGTH;
 use header::name_buffer;
-use listing::CELL_LIMIT;
-use listing::TEXT_LIMIT;
 use listing::list;
+
+// The limits of document 01: bytes of a text, cells of a picture.
+const TEXT_LIMIT: usize = 65536;
+
+const CELL_LIMIT: u64 = 65536;
 
 // One byte more than a text may have, so that a longer one is seen.
 const TEXT_SIZE: usize = TEXT_LIMIT + 1;
