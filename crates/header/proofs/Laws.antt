@@ -10,7 +10,7 @@ use Rattle.text.specs.declared.TextLocation.{TextLocation}
 use Rattle.text.specs.Place.{start}
 use Rattle.text.specs.Reader.{Result, ok, stop, bad, Reader, _>>=_, _>>_}
 use Rattle.text.specs.Outcome.{Outcome, accepted, refused, unplaced, Ended, ending-at, shown}
-use Rattle.text.specs.Leaf.{want}
+use Rattle.text.specs.Leaf.{give, want}
 use Rattle.lexical.specs.declared.XbmPart.{XbmPart}
 use Rattle.lexical.specs.declared.XbmPart.the-variants.{Width}
 use Rattle.lexical.specs.declared.Passed.{Passed}
@@ -22,8 +22,8 @@ use Rattle.lexical.specs.Token.{Tokened, sizeOf}
 use Rattle.text.proofs.Reading.{give-ok}
 use Rattle.lexical.proofs.Laws.{number-fits, row-first, pass-to, pass-refused}
 use Rattle.lexical.proofs.Tokens.{token-fits, token-size, token·laws}
-use Rattle.header.specs.Header.{Head, endWidth, endsWith, before, opening, header}
-use Rattle.header.specs.Answer.{refusalOf, toldRefusal, toldError, toldHeader, nameLength, stored, sidesOf, widthSymbol, Symboled, Headed}
+use Rattle.header.specs.Header.{Head, endWidth, endsWith, before, value, symbol, opening, header}
+use Rattle.header.specs.Answer.{refusalOf, toldRefusal, toldError, toldHeader, nameLength, stored, defineLine, sidesOf, widthSymbol, Symboled, Got, Headed}
 use Rattle.header.specs.declared.XbmDecodeError.{XbmDecodeError}
 use Rattle.header.specs.declared.XbmDecodeError.the-variants.{Parse, DecodeInteger}
 use Rattle.header.specs.declared.Refusal.{Refusal}
@@ -74,6 +74,18 @@ pub ruleset symbol·laws = (symbol-refused, symbol-long, symbol-named, symbol-ot
 
 -- an integer's token and the line's end
 pub ruleset value·laws = (pass-to, pass-refused, give-ok, token·laws)
+
+-- a define line: its symbol, and then its token
+module _ (c : ℕ) (name z t : List ℕ) (i : TextLocation) (later : List ℕ) {m : Passed} (e : told m ≡ symbol c name z t i) where
+  pub define-to : {p : TextLocation} {r : Token} → m ≡ To p → Got (value c give) t p later r → Got (defineLine c name z) t i later r
+  unfolding defineLine _>>=_
+  define-to h k = record { answer = rw (← e, h) (k .answer); fits = k .fits }
+
+  pub define-refused : {part : XbmPart} {q : TextLocation} → m ≡ Stopped part q → Got (defineLine c name z) t i later (Long part q)
+  unfolding defineLine _>>=_
+  define-refused h = record { answer = rw (← e, h); fits = omega arith }
+
+pub ruleset define·laws = (define-to, define-refused)
 
 -- what was stored is within the buffer
 module _ (m : Token) (later : List ℕ) (e : sizeOf m ≤ length later) {n : ℕ} {q : TextLocation} (h : m ≡ Read n q) where

@@ -5,7 +5,7 @@ use Rattle.text.specs.declared.TextLocation.{TextLocation}
 use Rattle.text.specs.Reader.{Result, ok, stop, bad, Reader, then, _>>=_}
 use Rattle.text.specs.Leaf.{give}
 use Rattle.header.specs.Header.{symbol, widthLine, rest, header, opening}
-use Rattle.header.specs.Answer.{unsignedLine, signedLine, sideLine, coordinateLine, spot, endingOf, restOf, heightOf, sidesOf, widthSymbol}
+use Rattle.header.specs.Answer.{defineLine, coordinateLine, spot, endingOf, restOf, heightOf, sidesOf, widthSymbol}
 
 then-assoc : {A B C : Type 0} (r : Result A) (f : A → TextLocation → Result B) (g : B → TextLocation → Result C)
     → then (then r f) g ≡ then r (λ a e. then (f a e) g)
@@ -22,5 +22,5 @@ unfolding _>>=_ give
 give-bind a f = refl
 
 pub parts : (limit : ℕ) → widthSymbol limit >>= (λ name. sidesOf name) ≡ header limit
-unfolding unsignedLine signedLine sideLine coordinateLine spot endingOf restOf heightOf sidesOf widthSymbol symbol widthLine rest header opening
+unfolding defineLine coordinateLine spot endingOf restOf heightOf sidesOf widthSymbol symbol widthLine rest header opening
 parts limit = simp (bind-assoc, give-bind)

@@ -25,13 +25,11 @@ use Rattle.integer.specs.declared.Unsigned.the-variants.{Value, Bad}
 use Rattle.integer.specs.declared.Signed.{Signed}
 use Rattle.integer.specs.declared.Signed.the-variants.{Number, Wrong}
 use Rattle.integer.specs.Decimal.{parseU32, parseI32, unsignedOf, signedOf}
-use Rattle.header.specs.Header.{value, positive}
-use Rattle.header.specs.Answer.{refusalOf, toldRefusal, toldError, toldSide, toldCoordinate, toldSpot, Valued}
+use Rattle.header.specs.Header.{positive}
+use Rattle.header.specs.Answer.{refusalOf, toldRefusal, toldError, toldCoordinate, toldSpot, Got}
 use Rattle.header.specs.declared.XbmDecodeError.{XbmDecodeError}
 use Rattle.header.specs.declared.Refusal.{Refusal}
 use Rattle.header.specs.declared.Refusal.the-variants.{Placed, Unplaced}
-use Rattle.header.specs.declared.SideRead.{SideRead}
-use Rattle.header.specs.declared.SideRead.the-variants.{Side, Refused as NoSide}
 use Rattle.header.specs.declared.CoordinateRead.{CoordinateRead}
 use Rattle.header.specs.declared.CoordinateRead.the-variants.{Coordinate, Refused as NoCoordinate}
 use Rattle.header.specs.declared.HotspotRead.{HotspotRead}
@@ -98,21 +96,14 @@ module _ {B : Type 0} (p : Reader (Unit {0})) (f : Unit {0} → Reader B) (t : L
   unfolding _>>=_
   show-stopped h k = rw (← e, h) k
 
-module _ {B : Type 0} (c : ℕ) (f : List ℕ → Reader B) {t : List ℕ} {i : TextLocation} {later : List ℕ} {m : Token} {z : Outcome (Ended B)} (e : Valued c t i later m) where
-  pub show-read : {n : ℕ} {q : TextLocation} → m ≡ Read n q → z ≡ shown (f (take n later) t q) → z ≡ shown ((value c give >>= f) t i)
+module _ {B : Type 0} (p : Reader (List ℕ)) (f : List ℕ → Reader B) {t : List ℕ} {i : TextLocation} {later : List ℕ} {m : Token} {z : Outcome (Ended B)} (e : Got p t i later m) where
+  pub show-read : {n : ℕ} {q : TextLocation} → m ≡ Read n q → z ≡ shown (f (take n later) t q) → z ≡ shown ((p >>= f) t i)
   unfolding _>>=_
   show-read h k = rw (← e .answer, h) k
 
-  pub show-long : {part : XbmPart} {q : TextLocation} → m ≡ Long part q → z ≡ refused (number part) q → z ≡ shown ((value c give >>= f) t i)
+  pub show-long : {part : XbmPart} {q : TextLocation} → m ≡ Long part q → z ≡ refused (number part) q → z ≡ shown ((p >>= f) t i)
   unfolding _>>=_
   show-long h k = rw (← e .answer, h) k
-
-module _ {B : Type 0} (p : Reader ℕ) (f : ℕ → Reader B) (t : List ℕ) (i : TextLocation) {m : SideRead} {z : Outcome (Ended B)} (e : toldSide m ≡ shown (p t i)) where
-  pub show-side : {n : ℕ} {q : TextLocation} → m ≡ Side n q → z ≡ shown (f n t q) → z ≡ shown ((p >>= f) t i)
-  show-side h k = show-accepted p f t i (rw h at e) k
-
-  pub show-no-side : {x : XbmDecodeError} → m ≡ NoSide x → z ≡ toldError x → z ≡ shown ((p >>= f) t i)
-  show-no-side {x} h k = show-error p f t i x (rw h at e) k
 
 module _ {B : Type 0} (p : Reader ℤ) (f : ℤ → Reader B) (t : List ℕ) (i : TextLocation) {m : CoordinateRead} {z : Outcome (Ended B)} (e : toldCoordinate m ≡ shown (p t i)) where
   pub show-coordinate : {n : ℤ} {q : TextLocation} → m ≡ Coordinate n q → z ≡ shown (f n t q) → z ≡ shown ((p >>= f) t i)
@@ -133,13 +124,13 @@ pub show-give : {A : Type 0} (a : A) (t : List ℕ) (i : TextLocation) {z : Outc
 unfolding give
 show-give a t i e = e
 
-module _ (c : ℕ) (w : List ℕ) (t : List ℕ) (i : TextLocation) {m : Unsigned} (e : m ≡ parseU32 w) {z : Outcome (Ended ℕ)} where
-  pub show-value : {n : ℕ} → m ≡ Value n → z ≡ accepted (ending-at n i) → z ≡ shown (need c (unsignedOf (parseU32 w)) t i)
-  unfolding need
+module _ {B : Type 0} (c : ℕ) (w : List ℕ) (f : ℕ → Reader B) (t : List ℕ) (i : TextLocation) {m : Unsigned} (e : m ≡ parseU32 w) {z : Outcome (Ended B)} where
+  pub show-value : {n : ℕ} → m ≡ Value n → z ≡ shown (f n t i) → z ≡ shown ((need c (unsignedOf (parseU32 w)) >>= f) t i)
+  unfolding need _>>=_
   show-value h k = rw (← e, h) k
 
-  pub show-bad : m ≡ Bad → z ≡ unplaced c → z ≡ shown (need c (unsignedOf (parseU32 w)) t i)
-  unfolding need
+  pub show-bad : m ≡ Bad → z ≡ unplaced c → z ≡ shown ((need c (unsignedOf (parseU32 w)) >>= f) t i)
+  unfolding need _>>=_
   show-bad h k = rw (← e, h) k
 
 module _ (c : ℕ) (w : List ℕ) (t : List ℕ) (i : TextLocation) {m : Signed} (e : m ≡ parseI32 w) {z : Outcome (Ended ℤ)} where
@@ -174,7 +165,7 @@ module _ {A : Type 0} (c x : ℕ) (p : Reader A) (y : ℕ) (q : Reader A) (t : L
   pub show-end : r ≡ End → z ≡ refused c i → z ≡ shown (fork c x p y q t i)
   show-end m k = rw (← fork-end c x p y q t i e m refl) k
 
-pub ruleset pass = (show-to, show-stopped, show-read, show-long, show-side, show-no-side, show-coordinate, show-no-coordinate, show-spot, show-no-spot)
+pub ruleset pass = (show-to, show-stopped, show-read, show-long, show-coordinate, show-no-coordinate, show-spot, show-no-spot)
 
 pub ruleset settle = (show-give, show-value, show-bad, show-number, show-wrong, show-zero, show-positive)
 

@@ -25,8 +25,6 @@ use Rattle.header.specs.declared.XbmHeaderData.{XbmHeaderData}
 use Rattle.header.specs.declared.HeaderRead.{HeaderRead}
 use Rattle.header.specs.declared.HeaderRead.the-variants.{Read, Refused}
 use Rattle.header.specs.declared.HeaderAnswer.{HeaderAnswer}
-use Rattle.header.specs.declared.SideRead.{SideRead}
-use Rattle.header.specs.declared.SideRead.the-variants.{Side, Refused as NoSide}
 use Rattle.header.specs.declared.CoordinateRead.{CoordinateRead}
 use Rattle.header.specs.declared.CoordinateRead.the-variants.{Coordinate, Refused as NoCoordinate}
 use Rattle.header.specs.declared.HotspotRead.{HotspotRead}
@@ -58,10 +56,6 @@ abbrev pub toldHeader : List ℕ → HeaderRead → Outcome (Ended Head)
 toldHeader name (Read d p) = accepted (ending-at (headOf name d) p)
 toldHeader name (Refused e) = toldError e
 
-abbrev pub toldSide : SideRead → Outcome (Ended ℕ)
-toldSide (Side n p) = accepted (ending-at n p)
-toldSide (NoSide e) = toldError e
-
 abbrev pub toldCoordinate : CoordinateRead → Outcome (Ended ℤ)
 toldCoordinate (Coordinate z p) = accepted (ending-at z p)
 toldCoordinate (NoCoordinate e) = toldError e
@@ -81,19 +75,13 @@ stored limit t = storedIn limit t (opening t start)
 
 -- ---- the header's parts, as the code reads them
 
--- a value, and the integer that it is
-unfoldable pub unsignedLine : ℕ → Reader ℕ
-unsignedLine c = value c give >>= unsigned (c + 10)
+-- a define line whose symbol is known: its token
+unfoldable pub defineLine : ℕ → List ℕ → List ℕ → Reader (List ℕ)
+defineLine c name z = symbol c name z >> value c give
 
-unfoldable pub signedLine : ℕ → Reader ℤ
-signedLine c = value c give >>= signed (c + 10)
-
--- a define line whose symbol is known, with its integer
-unfoldable pub sideLine : ℕ → List ℕ → List ℕ → Reader ℕ
-sideLine c name z = symbol c name z >> unsignedLine c
-
+-- and the coordinate that it is
 unfoldable pub coordinateLine : ℕ → List ℕ → List ℕ → Reader ℤ
-coordinateLine c name z = symbol c name z >> signedLine c
+coordinateLine c name z = defineLine c name z >>= signed (c + 10)
 
 -- the hotspot's two lines
 unfoldable pub spot : List ℕ → Reader (ℤ × ℤ)
@@ -107,10 +95,10 @@ unfoldable pub restOf : List ℕ → ℕ → ℕ → Reader Head
 restOf name w h = fork 5 35 (spot name >>= λ s. endingOf name w h (some s)) 115 (endingOf name w h none)
 
 unfoldable pub heightOf : List ℕ → ℕ → Reader Head
-heightOf name w = sideLine 2 name (ascii "_height") >>= λ v. need 22 (positive v) >>= λ h. restOf name w h
+heightOf name w = defineLine 2 name (ascii "_height") >>= λ d. unsigned 12 d >>= λ v. need 22 (positive v) >>= λ h. restOf name w h
 
 unfoldable pub sidesOf : List ℕ → Reader Head
-sidesOf name = unsignedLine 1 >>= λ v. need 21 (positive v) >>= λ w. heightOf name w
+sidesOf name = value 1 give >>= λ d. unsigned 11 d >>= λ v. need 21 (positive v) >>= λ w. heightOf name w
 
 -- the name in the width's symbol
 unfoldable pub widthSymbol : ℕ → Reader (List ℕ)
@@ -122,9 +110,9 @@ pub record Symboled (text lent later : List ℕ) (r : Token) : Type 0 where
   pub fits : sizeOf r ≤ length later
   pub symbol : later ≡ overlay (stored (length lent) text) lent
 
--- reading a value into the digits: its token, within them
-pub record Valued (c : ℕ) (text : List ℕ) (place : TextLocation) (later : List ℕ) (r : Token) : Type 0 where
-  pub answer : toldToken later r ≡ value c give text place
+-- reading a token into the digits: what p reads, within them
+pub record Got (p : Reader (List ℕ)) (text : List ℕ) (place : TextLocation) (later : List ℕ) (r : Token) : Type 0 where
+  pub answer : toldToken later r ≡ p text place
   pub fits : sizeOf r ≤ length later
 
 -- the length of the name handed back: none of a refused header

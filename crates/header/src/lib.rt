@@ -8,8 +8,8 @@ ghost use Rattle.text.specs.Outcome.{shown};
 ghost use Rattle.text.specs.Leaf.{give};
 ghost use Rattle.text.specs.Ascii.{ascii};
 ghost use Rattle.lexical.specs.Lexical.{number, told, onto};
-ghost use Rattle.header.specs.Header.{endsWith, opening, symbol, element, arrayLine};
-ghost use Rattle.header.specs.Answer.{refusalOf, hotOf, toldSide, toldCoordinate, toldSpot, toldHeader, unsignedLine, signedLine, sideLine, coordinateLine, spot, endingOf, restOf, heightOf, sidesOf, Symboled, Valued, Headed};
+ghost use Rattle.header.specs.Header.{endsWith, opening, value, symbol, element, arrayLine};
+ghost use Rattle.header.specs.Answer.{refusalOf, hotOf, toldCoordinate, toldSpot, toldHeader, defineLine, coordinateLine, spot, endingOf, restOf, heightOf, sidesOf, Symboled, Got, Headed};
 use integer::Signed;
 use integer::Unsigned;
 use integer::parse_i32;
@@ -90,12 +90,6 @@ pub struct HeaderAnswer {
     pub name: usize,
 }
 
-// A side read, or the refusal.
-pub enum SideRead {
-    Side(u32, TextLocation),
-    Refused(XbmDecodeError),
-}
-
 // A coordinate of the hotspot read, or the refusal.
 pub enum CoordinateRead {
     Coordinate(i32, TextLocation),
@@ -158,7 +152,7 @@ fn read_width_symbol(text: &[u8], name: &mut [u8]) -> Token
 
 // A gap, an integer token, and the line's end.
 fn read_value(text: &[u8], place: TextLocation, digits: &mut [u8; 11], part: XbmPart) -> Token
-    ensures { λ r. ⌜ Valued (number part) (now (text .entry)) place (now (digits .exit)) r ⌝ }
+    ensures { λ r. ⌜ Got (value (number part) give) (now (text .entry)) place (now (digits .exit)) r ⌝ }
 {
     let a = match read_whitespace_gap(text, place, part) {
         Passed::To(p) => p,
@@ -170,34 +164,6 @@ fn read_value(text: &[u8], place: TextLocation, digits: &mut [u8; 11], part: Xbm
             Passed::Refused(q, at) => Token::Refused(q, at),
         },
         Token::Refused(q, at) => Token::Refused(q, at),
-    }
-}
-
-// The same, as an unsigned integer.
-fn read_unsigned(text: &[u8], place: TextLocation, part: XbmPart) -> SideRead
-    ensures { λ r. ⌜ toldSide r ≡ shown (unsignedLine (number part) (now (text .entry)) place) ⌝ }
-{
-    let mut digits = [0u8; 11];
-    match read_value(text, place, &mut digits, part) {
-        Token::Read(n, next) => match parse_u32(&digits[..n]) {
-            Unsigned::Value(v) => SideRead::Side(v, next),
-            Unsigned::Bad => SideRead::Refused(XbmDecodeError::DecodeInteger(part)),
-        },
-        Token::Refused(q, at) => SideRead::Refused(XbmDecodeError::Parse(q, at)),
-    }
-}
-
-// The same, as a signed integer.
-fn read_signed(text: &[u8], place: TextLocation, part: XbmPart) -> CoordinateRead
-    ensures { λ r. ⌜ toldCoordinate r ≡ shown (signedLine (number part) (now (text .entry)) place) ⌝ }
-{
-    let mut digits = [0u8; 11];
-    match read_value(text, place, &mut digits, part) {
-        Token::Read(n, next) => match parse_i32(&digits[..n]) {
-            Signed::Number(v) => CoordinateRead::Coordinate(v, next),
-            Signed::Wrong => CoordinateRead::Refused(XbmDecodeError::DecodeInteger(part)),
-        },
-        Token::Refused(q, at) => CoordinateRead::Refused(XbmDecodeError::Parse(q, at)),
     }
 }
 
@@ -217,23 +183,24 @@ fn read_symbol(
     then_fixed(text, c, suffix, part)
 }
 
-// A define line with an unsigned integer.
-fn read_side_line(
+// A define line: its symbol, and then its integer token, which the caller parses.
+fn read_define_line(
     text: &[u8],
     place: TextLocation,
     name: &[u8],
     suffix: &[u8],
+    digits: &mut [u8; 11],
     part: XbmPart,
-) -> SideRead
-    ensures { λ r. ⌜ toldSide r ≡ shown (sideLine (number part) (now (name .entry)) (now (suffix .entry)) (now (text .entry)) place) ⌝ }
+) -> Token
+    ensures { λ r. ⌜ Got (defineLine (number part) (now (name .entry)) (now (suffix .entry))) (now (text .entry)) place (now (digits .exit)) r ⌝ }
 {
     match read_symbol(text, place, name, suffix, part) {
-        Passed::To(p) => read_unsigned(text, p, part),
-        Passed::Refused(q, at) => SideRead::Refused(XbmDecodeError::Parse(q, at)),
+        Passed::To(p) => read_value(text, p, digits, part),
+        Passed::Refused(q, at) => Token::Refused(q, at),
     }
 }
 
-// A define line with a signed integer.
+// A define line with a coordinate.
 fn read_coordinate_line(
     text: &[u8],
     place: TextLocation,
@@ -243,9 +210,13 @@ fn read_coordinate_line(
 ) -> CoordinateRead
     ensures { λ r. ⌜ toldCoordinate r ≡ shown (coordinateLine (number part) (now (name .entry)) (now (suffix .entry)) (now (text .entry)) place) ⌝ }
 {
-    match read_symbol(text, place, name, suffix, part) {
-        Passed::To(p) => read_signed(text, p, part),
-        Passed::Refused(q, at) => CoordinateRead::Refused(XbmDecodeError::Parse(q, at)),
+    let mut digits = [0u8; 11];
+    match read_define_line(text, place, name, suffix, &mut digits, part) {
+        Token::Read(n, next) => match parse_i32(&digits[..n]) {
+            Signed::Number(v) => CoordinateRead::Coordinate(v, next),
+            Signed::Wrong => CoordinateRead::Refused(XbmDecodeError::DecodeInteger(part)),
+        },
+        Token::Refused(q, at) => CoordinateRead::Refused(XbmDecodeError::Parse(q, at)),
     }
 }
 
@@ -361,14 +332,18 @@ fn read_rest(text: &[u8], place: TextLocation, name: &[u8], width: u32, height: 
 fn read_height(text: &[u8], place: TextLocation, name: &[u8], width: u32) -> HeaderRead
     ensures { λ r. ⌜ toldHeader (now (name .entry)) r ≡ shown (heightOf (now (name .entry)) width (now (text .entry)) place) ⌝ }
 {
-    match read_side_line(text, place, name, b"_height", XbmPart::Height) {
-        SideRead::Side(height, p) => {
-            if height == 0 {
-                return HeaderRead::Refused(XbmDecodeError::ZeroHeight);
+    let mut digits = [0u8; 11];
+    match read_define_line(text, place, name, b"_height", &mut digits, XbmPart::Height) {
+        Token::Read(n, p) => match parse_u32(&digits[..n]) {
+            Unsigned::Value(height) => {
+                if height == 0 {
+                    return HeaderRead::Refused(XbmDecodeError::ZeroHeight);
+                }
+                read_rest(text, p, name, width, height)
             }
-            read_rest(text, p, name, width, height)
-        }
-        SideRead::Refused(e) => HeaderRead::Refused(e),
+            Unsigned::Bad => HeaderRead::Refused(XbmDecodeError::DecodeInteger(XbmPart::Height)),
+        },
+        Token::Refused(q, at) => HeaderRead::Refused(XbmDecodeError::Parse(q, at)),
     }
 }
 
@@ -376,14 +351,18 @@ fn read_height(text: &[u8], place: TextLocation, name: &[u8], width: u32) -> Hea
 fn read_sides(text: &[u8], place: TextLocation, name: &[u8]) -> HeaderRead
     ensures { λ r. ⌜ toldHeader (now (name .entry)) r ≡ shown (sidesOf (now (name .entry)) (now (text .entry)) place) ⌝ }
 {
-    match read_unsigned(text, place, XbmPart::Width) {
-        SideRead::Side(width, p) => {
-            if width == 0 {
-                return HeaderRead::Refused(XbmDecodeError::ZeroWidth);
+    let mut digits = [0u8; 11];
+    match read_value(text, place, &mut digits, XbmPart::Width) {
+        Token::Read(n, p) => match parse_u32(&digits[..n]) {
+            Unsigned::Value(width) => {
+                if width == 0 {
+                    return HeaderRead::Refused(XbmDecodeError::ZeroWidth);
+                }
+                read_height(text, p, name, width)
             }
-            read_height(text, p, name, width)
-        }
-        SideRead::Refused(e) => HeaderRead::Refused(e),
+            Unsigned::Bad => HeaderRead::Refused(XbmDecodeError::DecodeInteger(XbmPart::Width)),
+        },
+        Token::Refused(q, at) => HeaderRead::Refused(XbmDecodeError::Parse(q, at)),
     }
 }
 
