@@ -2,15 +2,17 @@
 use mathlib.Core.Path.{_≡_, refl, sym, ap, _∙_}
 use Prim.Native.Nat.{ℕ, zero, suc, _+_, _-_, _*_, _/_, _%_, _^_, _≤_, _<_, min}
 use native.Mathlib.Omega.{arith}
-use native.Mathlib.Nat.{div-one, div-div-eq-div-mul, pow-suc}
+use native.Mathlib.Nat.{div-one, div-div-eq-div-mul, pow-suc, mod-lt, mul-le-mul-right, div-add-mod'}
+use mir.Syntax.{w64}
+use mir.Val.{Fits}
 use native.Mathlib.Numerals.{add-one}
 use mathlib.Core.List.{List, [], _∷_, _++_}
 use lib.ListN.{length, set, length-set}
 use lib.Dec.{eqb}
-use borrow.Author.Tests.{eq-eqb, ne-eqb}
+use borrow.Author.Tests.{eq-eqb, ne-eqb, lt-ltb, le-ltb}
 use Rattle.text.specs.Place.{pick}
 use Rattle.image.specs.Cells.{ink}
-use Rattle.image.specs.Stores.{dab}
+use Rattle.image.specs.Stores.{dab, byteStored}
 
 pub least-set : (b : ℕ) → b % 2 ≡ 1 → 0 ≡ ink b 0
 least-set b h = rw (div-one, eq-eqb (b % 2) 1 h)
@@ -49,3 +51,59 @@ module _ (s b n : ℕ) (p₀ p : List ℕ) (bits i : ℕ) (d : Dabbing s b n p�
   dabbing-done l = let r : i ≤ n = d .room in let e : i ≡ n = omega arith in rw (← e) (d .cells)
 
 pub ruleset dabbing·laws = (dabbing-none, dabbing-more, dabbing-done)
+
+-- ---- the cells of one data byte, by its position
+
+module _ (w k : ℕ) where
+  abbrev across : ℕ
+  across = (w + 7) / 8
+
+  in-row : (w ≡ 0 → ⊥) → k % across * 8 < w
+  in-row h = omega (arith, mod-lt k (some-across h))
+    where
+      some-across : (w ≡ 0 → ⊥) → 0 < across
+      some-across h = omega arith
+
+  pub x-fits : w < 2 ^ 32 → (w ≡ 0 → ⊥) → Fits w64 (k % ((w + 7) / 8) * 8)
+  x-fits l h = record { fits = omega (arith, in-row h) }
+
+  pub x-within : (w ≡ 0 → ⊥) → k % ((w + 7) / 8) * 8 ≤ w
+  x-within h = omega (arith, in-row h)
+
+  module _ (n : ℕ) (l : k / ((w + 7) / 8) < n / w) where
+    row-within : (k / across + 1) * w ≤ n
+    row-within = let z : (k / across + 1) * w ≤ n / w * w = mul-le-mul-right w (omega arith) in omega (arith, z, div-add-mod' n w)
+
+    pub row-fits : n < 2 ^ 64 → Fits w64 (k / ((w + 7) / 8) * w)
+    row-fits h = record { fits = omega (arith, row-within) }
+
+    module _ (h : w ≡ 0 → ⊥) where
+      pub start-fits : n < 2 ^ 64 → Fits w64 (k / ((w + 7) / 8) * w + k % ((w + 7) / 8) * 8)
+      start-fits o = record { fits = omega (arith, row-within, in-row h) }
+
+      pub eight-within : 8 < w - k % ((w + 7) / 8) * 8 → k / ((w + 7) / 8) * w + k % ((w + 7) / 8) * 8 + 8 ≤ n
+      eight-within o = omega (arith, row-within, in-row h)
+
+      pub left-within : k / ((w + 7) / 8) * w + k % ((w + 7) / 8) * 8 + (w - k % ((w + 7) / 8) * 8) ≤ n
+      left-within = omega (arith, row-within, in-row h)
+
+module _ (w k b : ℕ) (p : List ℕ) where
+  pub stored-none : w ≡ 0 → p ≡ byteStored w k b p
+  unfolding byteStored
+  stored-none h = rw (eq-eqb w 0 h)
+
+  module _ (h : w ≡ 0 → ⊥) where
+    pub stored-past : length p / w ≤ k / ((w + 7) / 8) → p ≡ byteStored w k b p
+    unfolding byteStored
+    stored-past l = rw (ne-eqb w 0 h, le-ltb (k / ((w + 7) / 8)) (length p / w) l)
+
+    module _ (l : k / ((w + 7) / 8) < length p / w) {q : List ℕ} where
+      pub stored-eight : 8 < w - k % ((w + 7) / 8) * 8 → q ≡ dab (k / ((w + 7) / 8) * w + k % ((w + 7) / 8) * 8) b 8 p → q ≡ byteStored w k b p
+      unfolding byteStored
+      stored-eight o e = let z : min 8 (w - k % ((w + 7) / 8) * 8) ≡ 8 = omega arith in rw (ne-eqb w 0 h, lt-ltb (k / ((w + 7) / 8)) (length p / w) l, z) e
+
+      pub stored-left : w - k % ((w + 7) / 8) * 8 ≤ 8 → q ≡ dab (k / ((w + 7) / 8) * w + k % ((w + 7) / 8) * 8) b (w - k % ((w + 7) / 8) * 8) p → q ≡ byteStored w k b p
+      unfolding byteStored
+      stored-left o e = let z : min 8 (w - k % ((w + 7) / 8) * 8) ≡ w - k % ((w + 7) / 8) * 8 = omega arith in rw (ne-eqb w 0 h, lt-ltb (k / ((w + 7) / 8)) (length p / w) l, z) e
+
+pub ruleset storing·laws = (x-fits, x-within, row-fits, start-fits, eight-within, left-within, stored-none, stored-past, stored-eight, stored-left)

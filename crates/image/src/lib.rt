@@ -8,7 +8,7 @@ ghost use Rattle.decoder.specs.Data.{item};
 ghost use Rattle.image.specs.Cells.{ink};
 ghost use Rattle.image.specs.Ink.{inkAt, inkOf};
 ghost use Rattle.image.specs.Limited.{limitedOf, Bounded, Limited};
-ghost use Rattle.image.specs.Stores.{dab};
+ghost use Rattle.image.specs.Stores.{dab, byteStored};
 ghost use Rattle.image.specs.Quick.{Meets, hexTable};
 ghost use Rattle.image.specs.Rows.{Filled};
 ghost use Rattle.image.specs.Reading.{Sided, Pictured, Imaged};
@@ -168,6 +168,28 @@ fn unpack(v: u8, pixels: &mut [u8], start: usize, n: usize)
         bits = bits / 2;
         i += 1;
     }
+}
+
+// The cells of data byte `position` of a picture so wide take its bits, where they fall in a whole row of the buffer.
+pub fn store_byte(pixels: &mut [u8], width: u32, position: u64, v: u8)
+    ensures { λ _. ⌜ now (pixels .exit) ≡ byteStored width position v (now (pixels .entry)) ⌝ }
+{
+    if width == 0 {
+        return;
+    }
+    let w = width as usize;
+    let across = (w + 7) / 8;
+    let y = position as usize / across;
+    if y >= pixels.len() / w {
+        return;
+    }
+    let x = position as usize % across * 8;
+    let left = w - x;
+    if left > 8 {
+        unpack(v, pixels, y * w + x, 8);
+        return;
+    }
+    unpack(v, pixels, y * w + x, left);
 }
 
 // Fills the whole rows of `width` cells that the buffer has, as far as the picture goes; no side is zero.

@@ -1,0 +1,82 @@
+-- `image::store_byte` meets its contract: the byte's row is whole in the buffer, and its cells are in the row (`storing·laws`).
+use borrow.Author.Needs.{needs}
+use Rattle.image.proofs.Stores.{storing·laws}
+use Rattle.image.proofs.store_byte.Statement.{statement}
+use Rattle.image.proofs.store_byte.Tie as tie
+
+returns : tie.Need-returns
+returns c = search (storing·laws, needs)
+
+add-across : tie.Need-add-across
+add-across c = search needs
+
+div-y : tie.Need-div-y
+div-y c = search needs
+
+div-if2 : tie.Need-div-if2
+div-if2 c = search needs
+
+returns-2 : tie.Need-returns-2
+returns-2 c = search (storing·laws, needs)
+
+rem-x : tie.Need-rem-x
+rem-x c = search needs
+
+mul-x : tie.Need-mul-x
+mul-x c = search (storing·laws, needs)
+
+sub-left : tie.Need-sub-left
+sub-left c = search (storing·laws, needs)
+
+mul-unpack : tie.Need-mul-unpack
+mul-unpack c = search (storing·laws, needs)
+
+add-unpack : tie.Need-add-unpack
+add-unpack c = search (storing·laws, needs)
+
+unpack-requires : tie.Need-unpack-requires
+unpack-requires c κs = search (storing·laws, needs)
+
+same-length : tie.Need-same-length
+same-length c = search needs
+
+returns-3 : tie.Need-returns-3
+returns-3 c = search (storing·laws, needs)
+
+mul-unpack-2 : tie.Need-mul-unpack-2
+mul-unpack-2 c = search (storing·laws, needs)
+
+add-unpack-2 : tie.Need-add-unpack-2
+add-unpack-2 c = search (storing·laws, needs)
+
+unpack-requires-2 : tie.Need-unpack-requires-2
+unpack-requires-2 c κs = search (storing·laws, needs)
+
+same-length-2 : tie.Need-same-length-2
+same-length-2 c = search needs
+
+returns-4 : tie.Need-returns-4
+returns-4 c = search (storing·laws, needs)
+
+pub store-byte-spec : {M : Type 1} → statement M
+store-byte-spec =
+    tie.close
+    (tie.spec
+    returns
+    add-across
+    div-y
+    div-if2
+    returns-2
+    rem-x
+    mul-x
+    sub-left
+    mul-unpack
+    add-unpack
+    unpack-requires
+    same-length
+    returns-3
+    mul-unpack-2
+    add-unpack-2
+    unpack-requires-2
+    same-length-2
+    returns-4)
