@@ -8,13 +8,14 @@ use mathlib.Core.Option.{Option, none, some}
 use mathlib.Core.List.{List, [], _∷_, _++_}
 use lib.ListN.{length, getD, set, length-set}
 use lib.Seq.{getD-set-same, getD-set-other}
+use borrow.Author.Tests.{ne-eqb, lt-ltb}
 use Rattle.text.specs.declared.TextLocation.{TextLocation}
 use Rattle.decoder.specs.Data.{Log}
 use Rattle.decoder.specs.Step.{rowBytes}
 use Rattle.image.specs.Cells.{ink, byteFor, byteAt, inked, cell, cellsFrom, painted}
-use Rattle.image.specs.Stores.{dab}
+use Rattle.image.specs.Stores.{dab, byteStored}
 use Rattle.image.specs.Kept.{at-past}
-use Rattle.image.proofs.Stores.{length-dab}
+use Rattle.image.proofs.Stores.{length-dab, left-within}
 
 -- ---- a log with one byte more
 
@@ -110,3 +111,15 @@ painted-from w l c (x ∷ p) (y ∷ lent) h k =
 pub painted-all : (w : ℕ) (l : Log) (p lent : List ℕ) → length p ≡ length lent → ((c : ℕ) → getD p c 0 ≡ cell w l c (getD lent c 0)) → p ≡ painted w l lent
 unfolding painted
 painted-all w l p lent h k = painted-from w l 0 p lent h (λ i. k i ∙ ap (λ (m : ℕ). cell w l m (getD lent i 0)) (omega arith))
+
+-- ---- one data byte by its position: the cells of the bytes before it become those with it
+
+pub stored-step : (w : ℕ) → (w ≡ 0 → ⊥) → (lent p : List ℕ) (l : Log) (b : ℕ) (e : TextLocation) → length l / ((w + 7) / 8) < length p / w
+    → ((c : ℕ) → getD p c 0 ≡ cell w l c (getD lent c 0)) → (c : ℕ) → getD (byteStored w (length l) b p) c 0 ≡ cell w (l ++ (b, e) ∷ []) c (getD lent c 0)
+unfolding byteStored
+stored-step w h lent p l b e r old c =
+    let k : ℕ = length l in
+    let some-bytes : 0 < rowBytes w = omega arith in
+    rw (ne-eqb w 0 h, lt-ltb (k / ((w + 7) / 8)) (length p / w) r)
+    (paint-step w (omega arith) (k / rowBytes w) (k % rowBytes w) (mod-lt k some-bytes) (k / rowBytes w * w + k % rowBytes w * 8) (min 8 (w - k % rowBytes w * 8)) (omega arith) (omega arith) lent p l b e
+    (omega (arith, div-add-mod' k (rowBytes w))) (omega (arith, left-within w k (length p) r h)) old c)
