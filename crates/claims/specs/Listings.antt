@@ -1,14 +1,12 @@
 -- The listing is that of the reading, where the limits let the text through; and so its cuts are those of the reading.
 use mathlib.Core.Path.{_≡_, refl, sym, ap, _∙_}
-use Prim.Native.Nat.{ℕ, _+_, _*_, _/_, _≤_, _<_}
+use Prim.Native.Nat.{ℕ, _*_, _/_, _≤_, _<_}
 use native.Mathlib.Omega.{arith}
 use native.Mathlib.Decide.{decLe}
 use native.Mathlib.Nat.{mul-div-right, div-add-mod'}
-use mathlib.Core.Bool.{true, false}
-use mathlib.Core.List.{List, [], _∷_, _++_}
+use mathlib.Core.List.{List, _++_}
 use lib.ListN.{length, take, drop, length-take}
 use lib.Seq.{length-take-le, take-at}
-use lib.Dec.{ltb}
 use borrow.Author.Tests.{le-ltb}
 use Rattle.text.specs.declared.TextLocation.{TextLocation}
 use Rattle.text.specs.Place.{byteOf, start, past}
@@ -18,7 +16,7 @@ use Rattle.header.specs.Header.{Head, header, header-local, header-firm}
 use Rattle.image.specs.Reading.{Reading, reading, picture}
 use Rattle.image.specs.Ink.{inkOf}
 use Rattle.image.specs.Limited.{cellsOf, pictured, afterHeader, limited}
-use Rattle.listing.specs.Listing.{textLimit, cellLimit, acceptedText, printed, inkIn, listedOf, listedText, Listed, listedWithin, listed, listing}
+use Rattle.listing.specs.Listing.{textLimit, cellLimit, acceptedText, printed, inkIn, listedOf, listedText, listedWithin, listed, listing}
 use Rattle.grammar.specs.Lang.{_·_}
 use Rattle.grammar.specs.Grammar.{Mask, Format}
 use Rattle.claims.specs.Terms.{headOf, Fitting, Last}

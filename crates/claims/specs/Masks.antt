@@ -4,7 +4,7 @@ use Prim.Native.String.{String}
 use mathlib.Core.List.{List, [], _∷_, _++_}
 use lib.ListN.{take, drop, replicate}
 use Rattle.text.specs.Ascii.{ascii}
-use Rattle.listing.specs.Listing.{Listed, listed, listing}
+use Rattle.listing.specs.Listing.{listed, listing}
 use Rattle.claims.specs.Terms.{over}
 
 pub record Row : Type 0 where

@@ -1,6 +1,5 @@
 -- The numbers of a listing are all small enough to be printed: so what is printed is a word of the lines of its answer.
-use mathlib.Core.Path.{_≡_, refl, sym, ap, _∙_}
-use mathlib.Core.Logic.{_⊎_, inl, inr}
+use mathlib.Core.Path.{_≡_, refl, ap}
 use Prim.Native.Nat.{ℕ, _+_, _*_, _^_, _≤_, _<_}
 use native.Mathlib.Omega.{arith}
 use native.Mathlib.Nat.{mul-le-mul-right, le-of-lt}
@@ -20,13 +19,13 @@ use Rattle.text.specs.Outcome.{Outcome, accepted, refused, unplaced, outcome}
 use Rattle.header.specs.Header.{Head, header, header-local}
 use Rattle.image.specs.Rows.{whole, whole-local}
 use Rattle.image.specs.Reading.{picture, reading}
-use Rattle.image.specs.Ink.{inkAt, inkOf}
+use Rattle.image.specs.Ink.{inkOf}
 use Rattle.image.specs.Limited.{cellsOf, unpictured, pictured, afterHeader, limited}
 use Rattle.listing.specs.Listing.{inkIn, unread, listedOf, Listed, listedWithin, listed, listing}
 use Rattle.grammar.specs.Lang.{_·_}
 use Rattle.grammar.specs.Grammar.{Mask, Side, Define, Hotspot, Header, Format}
 use Rattle.grammar.specs.Devices.{made}
-use Rattle.claims.specs.Terms.{headOf, Begun, Lines}
+use Rattle.claims.specs.Terms.{Lines}
 use Rattle.claims.specs.Numbers.{header-numbered, whole-numbered, placed-number, unplaced-number}
 use Rattle.claims.specs.Accepts.{accepts-exactly}
 use Rattle.claims.specs.Limits.{stands}

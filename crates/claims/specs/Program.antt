@@ -1,9 +1,9 @@
 -- THE CLAIMS ON THE PROGRAM: what it prints for document 01's masks, and of every accepted text and its cuts. To believe them, read Listing
 -- (what is printed of a text, with the limits) beside what Claims names, and this file. Every proof below is a citation or a computation.
-use mathlib.Core.Path.{_≡_, refl, ap, _∙_, sym}
+use mathlib.Core.Path.{_≡_, refl}
 use mathlib.Core.Logic.{_↔_}
 use Prim.Native.Nat.{ℕ, _*_, _≤_, _<_}
-use mathlib.Core.List.{List, [], _++_, map}
+use mathlib.Core.List.{List, _++_, map}
 use lib.ListN.{length, take, drop}
 use Rattle.text.specs.declared.TextLocation.{TextLocation}
 use Rattle.text.specs.Place.{byteOf, start, past, after, rest}

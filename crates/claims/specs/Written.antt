@@ -1,18 +1,16 @@
 -- A printed number is written as the grammar writes it, and so are the lines that a listing is made of.
-use mathlib.Core.Path.{_≡_, refl, sym, ap, _∙_}
-use mathlib.Core.Logic.{_⊎_, inl, inr}
-use Prim.Native.Nat.{ℕ, zero, suc, _+_, _-_, _*_, _/_, _%_, _^_, _≤_, _<_}
+use mathlib.Core.Path.{_≡_, refl, ap, _∙_}
+use mathlib.Core.Logic.{inl, inr}
+use Prim.Native.Nat.{ℕ, zero, suc, _+_, _-_, _*_, _/_, _%_, _^_, _<_}
 use Prim.Native.String.{String}
 use native.Mathlib.Omega.{arith}
 use native.Mathlib.Decide.{decLt}
 use native.Mathlib.Nat.{pow-suc}
-use mathlib.Core.Bool.{Bool, true, false}
 use mathlib.Core.Option.{Option, none, some}
 use mathlib.Core.List.{List, [], _∷_, _++_, append-nil}
 use lib.Dec.{ltb}
-use lib.IntN.{ℤ, pos, negsuc, negℤ}
+use lib.IntN.{ℤ, pos, negsuc}
 use borrow.Author.Tests.{lt-ltb, le-ltb}
-use Rattle.text.specs.declared.TextLocation.{TextLocation}
 use Rattle.text.specs.Ascii.{ascii}
 use Rattle.text.specs.Place.{pick}
 use Rattle.text.specs.Outcome.{Outcome, accepted, refused, unplaced}

@@ -8,7 +8,6 @@ use lib.IntN.{pos, negℤ}
 use Rattle.text.specs.Ascii.{ascii}
 use Rattle.text.specs.Place.{rest, after, placeOf, start}
 use Rattle.text.specs.Reader.{_>>=_}
-use Rattle.text.specs.declared.TextLocation.{TextLocation}
 use Rattle.text.specs.Outcome.{Outcome, accepted, refused, unplaced, Ended, ending-at, shown}
 use Rattle.text.specs.Leaf.{give, want, need, one, run, fork}
 use Rattle.lexical.specs.Lexical.{isBlank, isLoose, byte, skip, fixed, gap, lineEnd, leading}

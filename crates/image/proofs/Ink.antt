@@ -8,7 +8,7 @@ use native.Mathlib.Decide.{decLt}
 use mir.Syntax.{w64}
 use mir.Val.{Fits}
 use mathlib.Core.Bool.{Bool, true, false}
-use mathlib.Core.List.{List, [], _∷_}
+use mathlib.Core.List.{List}
 use lib.ListN.{length, take, drop, getD, drop-of-length-le, length-take}
 use lib.Seq.{drop-cons, take-all, take-length, drop-length}
 use lib.Dec.{eqb}

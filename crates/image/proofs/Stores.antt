@@ -1,16 +1,14 @@
 -- What the stores of the code make of a lent buffer.
-use mathlib.Core.Path.{_≡_, refl, sym, ap, _∙_}
+use mathlib.Core.Path.{_≡_, refl, sym, _∙_}
 use Prim.Native.Nat.{ℕ, zero, suc, _+_, _-_, _*_, _/_, _%_, _^_, _≤_, _<_, min}
 use native.Mathlib.Omega.{arith}
 use native.Mathlib.Nat.{div-one, div-div-eq-div-mul, pow-suc, mod-lt, mul-le-mul-right, div-add-mod'}
 use mir.Syntax.{w64}
 use mir.Val.{Fits}
 use native.Mathlib.Numerals.{add-one}
-use mathlib.Core.List.{List, [], _∷_, _++_}
+use mathlib.Core.List.{List}
 use lib.ListN.{length, set, length-set}
-use lib.Dec.{eqb}
 use borrow.Author.Tests.{eq-eqb, ne-eqb, lt-ltb, le-ltb}
-use Rattle.text.specs.Place.{pick}
 use Rattle.image.specs.Cells.{ink}
 use Rattle.image.specs.Stores.{dab, byteStored}
 

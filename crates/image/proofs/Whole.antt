@@ -1,40 +1,34 @@
 -- The whole reading from its parts: a header read, and then the rows.
 use mathlib.Core.Path.{_≡_, refl, sym, ap, _∙_}
-use Prim.Native.Nat.{ℕ, zero, suc, _+_, _≤_, _<_, min}
+use Prim.Native.Nat.{ℕ, _≤_}
 use native.Mathlib.Omega.{arith}
-use mathlib.Core.Option.{Option, none, some}
+use mathlib.Core.Option.{none, some}
 use mathlib.Core.Bool.{Bool, true, false}
-use mathlib.Core.List.{List, [], _∷_}
+use mathlib.Core.List.{List}
 use lib.ListN.{length, take, length-take}
 use lib.Dec.{eqb}
 use borrow.Author.Tests.{eqb-false}
-use Rattle.text.specs.Ascii.{ascii}
 use Rattle.text.specs.declared.TextLocation.{TextLocation}
 use Rattle.text.specs.Place.{pick, start}
-use Rattle.text.specs.Reader.{Result, ok, stop, bad, then, Reader, _>>=_, _>>_}
+use Rattle.text.specs.Reader.{Result, ok, stop, bad, then, _>>=_}
 use Rattle.text.specs.Leaf.{give, need}
 use Rattle.text.specs.Yields.{Yields, yields-from, yields-bind, yields-give, yields-fork}
 use Rattle.text.specs.Outcome.{Outcome, accepted, refused, unplaced, outcome, Ended, ending-at, shown}
 use Rattle.lexical.specs.declared.XbmPart.{XbmPart}
-use Rattle.lexical.specs.Lexical.{number}
 use Rattle.header.specs.declared.XbmDecodeError.{XbmDecodeError}
 use Rattle.header.specs.declared.XbmDecodeError.the-variants.{Parse}
 use Rattle.header.specs.declared.XbmHeaderData.{XbmHeaderData}
-use Rattle.header.specs.declared.HeaderRead.{HeaderRead}
 use Rattle.header.specs.declared.HeaderRead.the-variants.{Read as HeadRead, Refused as HeadRefused}
 use Rattle.header.specs.declared.HeaderAnswer.{HeaderAnswer}
 use Rattle.header.proofs.Told.{error-never, error-placed, error-unplaced}
-use Rattle.header.specs.Header.{Head, positive, ending, rest, widthLine, header}
-use Rattle.header.specs.Answer.{headOf, toldError, toldHeader, nameLength, stored, Headed}
-use Rattle.decoder.specs.Data.{logOf}
+use Rattle.header.specs.Header.{Head, positive, rest, widthLine, header}
+use Rattle.header.specs.Answer.{headOf, toldError, nameLength, stored, Headed}
 use Rattle.image.specs.declared.Rows.{Rows}
 use Rattle.image.specs.declared.Rows.the-variants.{Done, Refused as RowsRefused, Mismatch}
 use Rattle.image.specs.declared.ImageRead.{ImageRead}
 use Rattle.image.specs.declared.ImageRead.the-variants.{Read, Refused, DimensionMismatch}
-use Rattle.image.specs.declared.ImageAnswer.{ImageAnswer}
-use Rattle.image.specs.Cells.{painted}
-use Rattle.image.specs.Rows.{toldRows, count, whole, Filled}
-use Rattle.image.specs.Reading.{picture, nameIn, cellsIn, Reading, reading, toldImage, toldReading, Imaged, Sided, Pictured}
+use Rattle.image.specs.Rows.{toldRows, whole, Filled}
+use Rattle.image.specs.Reading.{picture, nameIn, cellsIn, Reading, reading, toldImage, Imaged, Sided, Pictured}
 
 -- ---- no side of an accepted header is zero
 

@@ -4,14 +4,14 @@ use Prim.Native.Nat.{ℕ, _*_, _≤_, _<_}
 use mir.Syntax.{w32}
 use mir.Val.{SFits, toZ, ofZ}
 use mir.ValLaws.{toZ-ofZ}
-use mathlib.Core.Option.{Option, none, some}
-use mathlib.Core.List.{List, [], _∷_, _++_, append-nil}
+use mathlib.Core.Option.{none, some}
+use mathlib.Core.List.{List, [], _++_, append-nil}
 use lib.ListN.{length, take}
 use lib.IntN.{ℤ}
 use borrow.Author.Tests.{lt-ltb, le-ltb}
 use Rattle.text.specs.Ascii.{ascii}
 use Rattle.text.specs.declared.TextLocation.{TextLocation}
-use Rattle.text.specs.Outcome.{Outcome, accepted, refused, unplaced}
+use Rattle.text.specs.Outcome.{refused, unplaced}
 use Rattle.header.specs.declared.Refusal.{Refusal}
 use Rattle.header.specs.declared.Refusal.the-variants.{Placed, Unplaced}
 use Rattle.header.specs.declared.XbmHeaderData.{XbmHeaderData}
@@ -19,10 +19,9 @@ use Rattle.header.specs.declared.Hotspot.{Hotspot}
 use Rattle.header.specs.declared.Hotspot.the-variants.{Absent, At}
 use Rattle.header.specs.Answer.{toldRefusal, headOf, hotOf}
 use Rattle.image.specs.Ink.{inkOf}
-use Rattle.image.specs.declared.LimitedRead.{LimitedRead}
 use Rattle.image.specs.declared.LimitedRead.the-variants.{Read, Refused as NotRead}
 use Rattle.image.specs.declared.LimitedAnswer.{LimitedAnswer}
-use Rattle.image.specs.Limited.{limitedReading, limited, Limited}
+use Rattle.image.specs.Limited.{limitedReading, Limited}
 use Rattle.print.specs.Output.{Output, output, puts, joined, puts-append}
 use Rattle.print.specs.Decimal.{signed}
 use Rattle.print.proofs.Laws.{joined·laws}

@@ -3,7 +3,7 @@ use mathlib.Core.Path.{_≡_, refl, sym, ap, _∙_}
 use mathlib.Core.Logic.{_↔_, _⊎_, inl, inr}
 use Prim.Native.Nat.{ℕ}
 use native.Mathlib.Omega.{arith}
-use mathlib.Core.Option.{Option, none, some}
+use mathlib.Core.Option.{Option, some}
 use mathlib.Core.List.{List, [], _++_}
 use lib.ListN.{length}
 use lib.IntN.{ℤ}
@@ -14,7 +14,7 @@ use Rattle.text.specs.Reader.{Result, ok, stop, bad, then, Reader, _>>=_}
 use Rattle.text.specs.Leaf.{give}
 use Rattle.header.specs.Header.{Head, line, signed, widthLine, element, arrayLine, ending, header}
 use Rattle.image.specs.Reading.{reading}
-use Rattle.grammar.specs.Lang.{Lang, Word, Lit, _·_, All}
+use Rattle.grammar.specs.Lang.{Lang, Word, _·_, All}
 use Rattle.grammar.specs.Grammar.{Mask, solid, Coordinate, Define, Header}
 use Rattle.grammar.specs.Bind.{bind-ok}
 use Rattle.grammar.specs.Devices.{headOf}

@@ -1,35 +1,35 @@
 -- A call for the next data byte on a decoder that is not foreign, by what stands in the text from its place on.
 use mathlib.Core.Path.{_≡_, refl, sym, ap, _∙_}
 use mathlib.Core.Logic.{_↔_, _⊎_, inl, inr}
-use Prim.Native.Nat.{ℕ, zero, suc, _+_, _-_, _*_, _≤_, _<_}
+use Prim.Native.Nat.{ℕ, zero, suc, _+_, _-_, _≤_, _<_}
 use native.Mathlib.Omega.{arith}
 use native.Mathlib.Decide.{decLt}
 use mathlib.Core.Option.{Option, none, some}
-use mathlib.Core.Bool.{Bool, true, false, false≢true}
-use mathlib.Core.List.{List, [], _∷_, _++_, append-nil}
+use mathlib.Core.Bool.{Bool, true, false}
+use mathlib.Core.List.{List, [], _++_, append-nil}
 use lib.ListN.{length, take, drop, take-append-drop, length-drop}
 use lib.Seq.{length-take-le}
-use lib.Dec.{eqb, ltb}
+use lib.Dec.{eqb}
 use borrow.Author.Tests.{le-leb, ne-eqb}
 use Rattle.text.specs.declared.TextLocation.{TextLocation}
 use Rattle.text.specs.Place.{byteOf, rest, past}
 use Rattle.text.specs.Rest.{Reach, reach-inside, walk-ahead, walk-unique}
-use Rattle.text.specs.Reader.{Result, ok, stop, bad, endOf, Reader, _>>=_, _>>_}
-use Rattle.text.specs.Outcome.{Outcome, accepted, refused, unplaced, outcome}
+use Rattle.text.specs.Reader.{Result, ok, stop, bad, Reader}
+use Rattle.text.specs.Outcome.{Outcome, accepted, refused, outcome}
 use Rattle.decoder.specs.Data.{item, trailer, closing, tail, item-local, trailer-local}
 use Rattle.decoder.specs.declared.XbmStreamDecoder.{XbmStreamDecoder}
 use Rattle.decoder.specs.Step.{foreign, stepOf}
 use Rattle.grammar.specs.Lang.{Lang, _·_}
 use Rattle.grammar.specs.Bind.{bind-ok, past-byte}
 use Rattle.grammar.specs.Grammar.{Loose, Closing}
-use Rattle.grammar.specs.Fits.{Any, End, At, Fits, fit-then}
+use Rattle.grammar.specs.Fits.{Any, End, Fits, fit-then}
 use Rattle.grammar.specs.Exact.{first-fits, next-fits, closing-fits, tail-fits}
 use Rattle.claims.specs.Terms.{Begun}
 use Rattle.claims.specs.Cuts.{walk-past}
 use Rattle.claims.specs.Numbers.{Numbered, item-numbered, closing-numbered, tail-numbered, trailer-numbered, placed-number}
 use Rattle.claims.specs.Steps.{Native, next-answer, next-decoder, last-answer}
 use Rattle.refusals.specs.Terms.{Placed, No, Foreign, sizeOf, ahead, moved, Item}
-use Rattle.refusals.specs.Stages.{alone, stop-first, stop-second, read-at}
+use Rattle.refusals.specs.Stages.{alone, stop-first, stop-second}
 use Rattle.refusals.specs.Calls.{foreign-exactly, of-here, last-decoder}
 
 item-fits : (k b : ℕ) → Fits (item (eqb k 0)) b (Unit {0}) (Item k b) Any

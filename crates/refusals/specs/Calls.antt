@@ -1,7 +1,7 @@
 -- Calls for the next data byte, on any decoder: which are foreign, where a refused call leaves the decoder, what a call after the end gives.
 use mathlib.Core.Path.{_≡_, refl, sym, ap, _∙_}
 use mathlib.Core.Logic.{_↔_, inl, inr}
-use Prim.Native.Nat.{ℕ, _+_, _*_, _/_, _≤_, _<_}
+use Prim.Native.Nat.{ℕ, _+_, _≤_, _<_}
 use native.Mathlib.Omega.{arith}
 use native.Mathlib.Decide.{decLt}
 use mathlib.Core.Option.{Option, none, some}
@@ -11,13 +11,13 @@ use lib.ListN.{length}
 use lib.Dec.{eqb, ltb}
 use borrow.Author.Tests.{eqb-true, eqb-false, ltb-true, ltb-false, lt-ltb, le-ltb}
 use Rattle.text.specs.declared.TextLocation.{TextLocation}
-use Rattle.text.specs.Place.{pick, byteOf, rest}
-use Rattle.text.specs.Rest.{Reach, reach-inside, walk-sound, Sound}
-use Rattle.text.specs.Reader.{Result, ok, stop, bad, endOf, Reader, then, _>>=_, _>>_, Local, bind-local}
-use Rattle.text.specs.Leaf.{give, give-local, run, fork, eot, endIf}
+use Rattle.text.specs.Place.{pick, rest}
+use Rattle.text.specs.Rest.{Reach, reach-inside, walk-sound}
+use Rattle.text.specs.Reader.{Result, ok, stop, bad, endOf, then, _>>=_, _>>_}
+use Rattle.text.specs.Leaf.{give, run, fork, eot, endIf}
 use Rattle.text.specs.Outcome.{Outcome, accepted, refused, unplaced, outcome}
 use Rattle.lexical.specs.Lexical.{isLoose, skip}
-use Rattle.decoder.specs.Data.{item, trailer, closing, brace, tail, item-local, trailer-local}
+use Rattle.decoder.specs.Data.{item, trailer, closing, brace, tail, trailer-local}
 use Rattle.decoder.specs.declared.XbmStreamDecoder.{XbmStreamDecoder}
 use Rattle.decoder.specs.Step.{bytesOf, foreign, more, called, spent, placedAt, stepOf}
 use Rattle.grammar.specs.Bind.{bind-case, bind-ok, bind-stop}

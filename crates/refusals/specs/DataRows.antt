@@ -12,16 +12,16 @@ use lib.Dec.{eqb}
 use borrow.Author.Tests.{le-ltb}
 use Rattle.text.specs.declared.TextLocation.{TextLocation}
 use Rattle.text.specs.Place.{start}
-use Rattle.text.specs.Reader.{Result, ok, stop, bad, then, Reader, _>>=_}
+use Rattle.text.specs.Reader.{Result, ok, stop, bad, Reader, _>>=_}
 use Rattle.text.specs.Leaf.{give}
 use Rattle.text.specs.Outcome.{refused, outcome}
 use Rattle.header.specs.Header.{Head, header}
-use Rattle.decoder.specs.Data.{item, items, trailer}
+use Rattle.decoder.specs.Data.{item, items}
 use Rattle.decoder.specs.Step.{rowBytes}
 use Rattle.image.specs.Rows.{mismatch, ending, whole}
 use Rattle.image.specs.Reading.{picture, reading}
 use Rattle.grammar.specs.Lang.{_·_}
-use Rattle.grammar.specs.Grammar.{Mask, Header, Data, Closing, Format}
+use Rattle.grammar.specs.Grammar.{Mask, Header, Data, Format}
 use Rattle.grammar.specs.Bind.{bind-case, bind-ok}
 use Rattle.grammar.specs.Devices.{headOf, made}
 use Rattle.grammar.specs.Headers.{header-exactly}

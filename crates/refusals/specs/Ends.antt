@@ -1,17 +1,16 @@
 -- When 7 comes and when 8: exactly where the data bytes stand whole and the trailer does not, up to the semicolon or after it.
 use mathlib.Core.Path.{_≡_, refl, sym, ap, _∙_}
-use mathlib.Core.Logic.{_↔_, _⊎_, inl, inr}
-use Prim.Native.Nat.{ℕ, _+_, _*_, _/_, _≤_, _<_, min}
+use mathlib.Core.Logic.{_↔_}
+use Prim.Native.Nat.{ℕ, _+_, _*_, _/_, _≤_, min}
 use native.Mathlib.Omega.{arith}
-use native.Mathlib.Decide.{decLt}
 use mathlib.Core.Bool.{Bool, true, false}
-use mathlib.Core.List.{List, [], _∷_, _++_, append-nil, append-assoc}
+use mathlib.Core.List.{List, [], _++_, append-nil, append-assoc}
 use lib.ListN.{length}
 use lib.Dec.{eqb, ltb}
-use borrow.Author.Tests.{le-ltb, eqb-true, ltb-true, ltb-false}
+use borrow.Author.Tests.{le-ltb, eqb-true, ltb-false}
 use Rattle.text.specs.declared.TextLocation.{TextLocation}
 use Rattle.text.specs.Place.{start, past, rest as restAt}
-use Rattle.text.specs.Reader.{Result, ok, stop, bad, then, Reader, _>>=_, _>>_}
+use Rattle.text.specs.Reader.{Result, ok, stop, bad, then, _>>=_}
 use Rattle.text.specs.Leaf.{give, need}
 use Rattle.text.specs.Outcome.{Outcome, accepted, refused, unplaced, outcome}
 use Rattle.header.specs.Header.{Head, header}
@@ -19,13 +18,13 @@ use Rattle.decoder.specs.Data.{item, items, closing, tail, trailer}
 use Rattle.image.specs.Rows.{count, ending, whole}
 use Rattle.image.specs.Reading.{picture, reading}
 use Rattle.grammar.specs.Lang.{_·_}
-use Rattle.grammar.specs.Grammar.{Mask, Header, Data, Closing, Loose, Format}
+use Rattle.grammar.specs.Grammar.{Mask, Header, Data, Closing, Loose}
 use Rattle.grammar.specs.Devices.{headOf, made}
-use Rattle.grammar.specs.Bind.{bind-case, past-append, move}
+use Rattle.grammar.specs.Bind.{past-append, move}
 use Rattle.grammar.specs.Fits.{Any, End}
 use Rattle.grammar.specs.Exact.{start-rest, data-fits, closing-fits, tail-fits}
 use Rattle.claims.specs.Terms.{Begun, W, rows}
-use Rattle.claims.specs.Numbers.{Numbered, header-numbered, items-numbered, item-numbered, closing-numbered, tail-numbered, whole-numbered, placed-number, unplaced-number}
+use Rattle.claims.specs.Numbers.{header-numbered, items-numbered, item-numbered, closing-numbered, tail-numbered, whole-numbered, placed-number, unplaced-number}
 use Rattle.claims.specs.Limits.{heads}
 
 -- the header and all data bytes stand at the text's start, in u; and the buffer has rows enough

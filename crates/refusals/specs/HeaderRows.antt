@@ -25,7 +25,7 @@ use Rattle.grammar.specs.Pieces.{leading-fits}
 use Rattle.grammar.specs.Lines.{width-fits}
 use Rattle.claims.specs.Terms.{Begun}
 use Rattle.claims.specs.Numbers.{Numbered, numbers, whole-numbered, placed-number, unplaced-number}
-use Rattle.refusals.specs.Terms.{NoWidthLine, BadWidth, ZeroWidth, NoHeightLine, BadHeight, ZeroHeight, Token, Front, Second, No, NoSide, Placed}
+use Rattle.refusals.specs.Terms.{NoWidthLine, BadWidth, ZeroWidth, NoHeightLine, BadHeight, ZeroHeight, Token, Front, Second, NoSide, Placed}
 use Rattle.refusals.specs.Stages.{both-ways, assoc, Quiet, quiet-mild, quiet-bind, quiet-need, quiet-fork, need-none, need-some, stage-stop, stage-bad, after-stop, after-bad, begun}
 use Rattle.refusals.specs.Lines.{known, known-fits, front, front-fits, widths, raw, define-begins, line-is, wide, next, header-is}
 

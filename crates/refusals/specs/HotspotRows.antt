@@ -13,7 +13,7 @@ use borrow.Author.Tests.{eqb-true, eqb-false, eq-eqb, ne-eqb}
 use Rattle.text.specs.declared.TextLocation.{TextLocation}
 use Rattle.text.specs.Ascii.{ascii}
 use Rattle.text.specs.Place.{start, past, after, rest as restAt}
-use Rattle.text.specs.Reader.{ok, stop, bad, then, Reader, _>>=_}
+use Rattle.text.specs.Reader.{ok, stop, bad, Reader, _>>=_}
 use Rattle.text.specs.Leaf.{give, fork, forkOf, choose}
 use Rattle.text.specs.Outcome.{unplaced}
 use Rattle.lexical.specs.Lexical.{leading}
@@ -27,7 +27,7 @@ use Rattle.grammar.specs.Pieces.{begins-any}
 use Rattle.grammar.specs.Lines.{height-fits, hot-fits}
 use Rattle.claims.specs.Terms.{Begun}
 use Rattle.claims.specs.Numbers.{Numbered, numbers, placed-number, unplaced-number}
-use Rattle.refusals.specs.Terms.{NoXLine, BadX, NoYLine, BadY, Token, Front, Sides, Third, Fourth, No, NoCoordinate, Placed}
+use Rattle.refusals.specs.Terms.{NoXLine, BadX, NoYLine, BadY, Token, Front, No, NoCoordinate, Placed}
 use Rattle.refusals.specs.Stages.{both-ways, assoc, given, chain, Quiet, stop-second, bad-second, need-none, at-both, at-parts, stage-stop, later-stop, later-bad, one-end, none-after, after-stop, after-bad, begun}
 use Rattle.refusals.specs.Lines.{known, known-fits, raw, define-begins, line-is}
 use Rattle.refusals.specs.HeaderRows.{quiets, told-stop, told-bad, begun-out, begun-in, first, first-fits, front-name, known-quiet}

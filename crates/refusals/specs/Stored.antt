@@ -1,28 +1,28 @@
 -- What any text leaves in the name buffer.
 use mathlib.Core.Path.{_≡_, refl, sym, ap, _∙_}
 use mathlib.Core.Logic.{_⊎_, inl, inr}
-use Prim.Native.Nat.{ℕ, zero, suc, _+_, _-_, _≤_, _<_}
+use Prim.Native.Nat.{ℕ, zero, suc, _+_, _-_, _≤_}
 use native.Mathlib.Omega.{arith}
 use mathlib.Core.Option.{some}
 use mathlib.Core.Bool.{Bool, true, false, not, false≢true}
 use mathlib.Core.List.{List, [], _∷_, _++_, append-assoc}
-use lib.ListN.{length, take, length-append}
+use lib.ListN.{length, length-append}
 use lib.Seq.{take-append-seam}
 use lib.Dec.{ltb}
 use borrow.Author.Tests.{lt-ltb, le-ltb, not-true}
 use Rattle.text.specs.declared.TextLocation.{TextLocation}
 use Rattle.text.specs.Place.{pick, byteOf, rest, after, start, past}
-use Rattle.text.specs.Reader.{Result, ok, stop, bad, endOf, Placed}
+use Rattle.text.specs.Reader.{Result, ok, stop, bad, endOf}
 use Rattle.text.specs.Leaf.{scan, moved, stay, halt, go-on, run}
 use Rattle.lexical.specs.Lexical.{isLoose}
 use Rattle.lexical.specs.Token.{upTo, token, span, overlay}
-use Rattle.header.specs.Header.{hashDefine, opening, opening-mild}
+use Rattle.header.specs.Header.{hashDefine, opening}
 use Rattle.header.specs.Answer.{storedIn, stored}
 use Rattle.image.specs.Reading.{reading}
 use Rattle.grammar.specs.Lang.{_·_, All, Some}
 use Rattle.grammar.specs.Grammar.{blank, space, solid, Gap}
 use Rattle.grammar.specs.Bind.{past-byte, move}
-use Rattle.grammar.specs.Fits.{Fits, Begins, Off, Any, fit-run}
+use Rattle.grammar.specs.Fits.{Fits, Off, fit-run}
 use Rattle.grammar.specs.Pieces.{begin, leading-fits, gap-fits, fit-fixed, loose-is}
 use Rattle.grammar.specs.Exact.{start-rest}
 use Rattle.claims.specs.Terms.{Opening, over}

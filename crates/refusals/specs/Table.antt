@@ -1,7 +1,7 @@
 -- No number is told but those of document 01's table.
 use mathlib.Core.Path.{_≡_, refl, sym}
-use mathlib.Core.Logic.{_⊎_, inl, inr}
-use Prim.Native.Nat.{ℕ, _≤_}
+use mathlib.Core.Logic.{inl, inr}
+use Prim.Native.Nat.{ℕ}
 use native.Mathlib.Omega.{arith}
 use mathlib.Core.Bool.{Bool, true, false}
 use mathlib.Core.List.{List}
@@ -12,7 +12,7 @@ use Rattle.text.specs.declared.TextLocation.{TextLocation}
 use Rattle.text.specs.Place.{start}
 use Rattle.text.specs.Reader.{Result, ok, stop, bad, then, _>>=_}
 use Rattle.text.specs.Leaf.{give}
-use Rattle.text.specs.Outcome.{Outcome, accepted, refused, unplaced, outcome}
+use Rattle.text.specs.Outcome.{unplaced, outcome}
 use Rattle.header.specs.Header.{Head, widthLine, element, arrayLine, rest, header}
 use Rattle.image.specs.Rows.{whole}
 use Rattle.image.specs.Reading.{picture, reading}

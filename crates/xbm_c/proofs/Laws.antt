@@ -1,13 +1,12 @@
 -- The answers of header and image, told as numbers: one law for each way through.
 use mathlib.Core.Path.{_≡_, refl, sym, ap, _∙_}
-use Prim.Native.Nat.{ℕ, _+_, _≤_, min}
+use Prim.Native.Nat.{ℕ}
 use native.Mathlib.Omega.{arith}
 use mathlib.Core.List.{List, [], _∷_}
 use lib.ListN.{length, take, length-take}
 use lib.IntN.{ℤ, pos}
 use Rattle.text.specs.declared.TextLocation.{TextLocation}
 use Rattle.text.specs.Place.{start}
-use Rattle.text.specs.Reader.{Result}
 use Rattle.text.specs.Outcome.{Outcome, Ended, shown}
 use Rattle.header.specs.declared.XbmDecodeError.{XbmDecodeError}
 use Rattle.header.specs.declared.Refusal.{Refusal}
@@ -19,11 +18,11 @@ use Rattle.header.specs.declared.HeaderRead.{HeaderRead}
 use Rattle.header.specs.declared.HeaderRead.the-variants.{Read as HeadRead, Refused as HeadRefused}
 use Rattle.header.specs.declared.HeaderAnswer.{HeaderAnswer}
 use Rattle.header.specs.Header.{Head, header}
-use Rattle.header.specs.Answer.{refusalOf, toldRefusal, hotOf, toldHeader, nameLength, Headed}
+use Rattle.header.specs.Answer.{refusalOf, toldRefusal, hotOf, toldHeader, Headed}
 use Rattle.image.specs.declared.ImageRead.{ImageRead}
 use Rattle.image.specs.declared.ImageRead.the-variants.{Read, Refused, DimensionMismatch}
 use Rattle.image.specs.declared.ImageAnswer.{ImageAnswer}
-use Rattle.image.specs.Reading.{Reading, reading, toldImage, Imaged}
+use Rattle.image.specs.Reading.{Reading, toldImage, Imaged}
 use Rattle.xbm_c.specs.declared.Summary.{Summary}
 use Rattle.xbm_c.specs.Report.{nowhere, spotOf, refusal, ofRefusal, ofHeader, ofImage, headerTold, imageTold, flagOf, coordinates, reportOf, Tells, HeaderCall, ImageCall}
 

@@ -15,7 +15,7 @@ use Rattle.header.specs.declared.Hotspot.{Hotspot}
 use Rattle.header.specs.declared.Hotspot.the-variants.{Absent, At}
 use Rattle.header.specs.Header.{Head, header}
 use Rattle.header.specs.Answer.{stored, nameLength}
-use Rattle.image.specs.Reading.{Reading, reading}
+use Rattle.image.specs.Reading.{reading}
 use Rattle.xbm_c.specs.declared.Summary.{Summary}
 
 -- stands where no place is told
