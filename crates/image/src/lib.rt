@@ -20,10 +20,9 @@ use hex_table::HEX;
 use lexical::ByteRead;
 use lexical::Passed;
 use lexical::XbmPart;
-use text::Byte;
-use text::Column;
-use text::Line;
 use text::TextLocation;
+use text::along;
+use text::has_left;
 
 mod hex_table;
 
@@ -69,23 +68,10 @@ fn quick_byte(text: &[u8], place: TextLocation, first: bool, table: &[u8; 256]) 
     if first {
         return Quick::Miss;
     }
-    let at = place.byte.0;
-    let line = place.line.0;
-    let column = place.column.0;
-    let size = text.len() as u64;
-    if size < 6 {
+    if !has_left(text, place, 6) {
         return Quick::Miss;
     }
-    if at > size - 6 {
-        return Quick::Miss;
-    }
-    if at < column {
-        return Quick::Miss;
-    }
-    if at + 1 < line {
-        return Quick::Miss;
-    }
-    let i = at as usize;
+    let i = place.byte.0 as usize;
     if text[i] != b',' {
         return Quick::Miss;
     }
@@ -106,14 +92,7 @@ fn quick_byte(text: &[u8], place: TextLocation, first: bool, table: &[u8; 256]) 
     if lo >= 16 {
         return Quick::Miss;
     }
-    Quick::Hit(
-        hi * 16 + lo,
-        TextLocation {
-            byte: Byte(at + 6),
-            line: Line(line),
-            column: Column(column + 6),
-        },
-    )
+    Quick::Hit(hi * 16 + lo, along(place, 6))
 }
 
 // The next data byte: the common form at once, anything else by the plain reader. The plain answer is taken apart and made again, so that

@@ -7,12 +7,12 @@ ghost use Rattle.text.specs.Reader.{ok};
 ghost use Rattle.lexical.specs.Lexical.{isBlank, isLoose, number, told, onto, toldByte, anyByte, skip, gap, fixed, lineEnd, lineOf, lineRest, leading};
 ghost use Rattle.lexical.specs.Token.{Tokened};
 ghost use Rattle.lexical.specs.Hex.{hexOf, isMark, hexDigit, hexStart, hexByte};
-use text::Byte;
-use text::Column;
-use text::Line;
 use text::Peeked;
 use text::TextLocation;
 use text::Took;
+use text::along;
+use text::has_left;
+use text::past_line;
 use text::peek;
 use text::take;
 
@@ -223,35 +223,16 @@ fn line_end(text: &[u8], from: usize) -> usize
 fn skip_line(text: &[u8], place: TextLocation, part: XbmPart) -> Passed
     ensures { λ r. ⌜ told r ≡ lineRest (number part) (now (text .entry)) place ⌝ }
 {
-    let at = place.byte.0;
-    let line = place.line.0;
-    let column = place.column.0;
-    if at >= text.len() as u64 {
-        return Passed::Refused(part, place);
+    if has_left(text, place, 1) {
+        let from = place.byte.0 as usize;
+        let end = line_end(text, from);
+        let size = (end - from) as u64;
+        if end < text.len() {
+            return Passed::To(past_line(place, size));
+        }
+        return Passed::Refused(part, along(place, size));
     }
-    if at < column {
-        return Passed::Refused(part, place);
-    }
-    if at + 1 < line {
-        return Passed::Refused(part, place);
-    }
-    let i = at as usize;
-    let end = line_end(text, i);
-    if end < text.len() {
-        return Passed::To(TextLocation {
-            byte: Byte(end as u64 + 1),
-            line: Line(line + 1),
-            column: Column(0),
-        });
-    }
-    Passed::Refused(
-        part,
-        TextLocation {
-            byte: Byte(end as u64),
-            line: Line(line),
-            column: Column(column + (end - i) as u64),
-        },
-    )
+    Passed::Refused(part, place)
 }
 
 // Skip whole lines, up to the first that begins with `#`.

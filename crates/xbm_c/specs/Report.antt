@@ -6,7 +6,7 @@ use mathlib.Core.List.{List, [], _∷_}
 use lib.ListN.{length}
 use lib.IntN.{ℤ, pos}
 use Rattle.text.specs.declared.TextLocation.{TextLocation}
-use Rattle.text.specs.Place.{start}
+use Rattle.text.specs.Place.{start, nowhere}
 use Rattle.text.specs.Reader.{Result, Told, accepted, refused, unplaced, shown}
 use Rattle.text.specs.Outcome.{Outcome, accepted as accepted-image, refused as refused-image, unplaced as unplaced-image}
 use Rattle.lexical.specs.Token.{overlay}
@@ -16,10 +16,6 @@ use Rattle.header.specs.Header.{Head, header}
 use Rattle.header.specs.Answer.{stored, nameLength}
 use Rattle.image.specs.Reading.{Reading, reading}
 use Rattle.xbm_c.specs.declared.Summary.{Summary}
-
--- stands where no place is told
-abbrev pub nowhere : TextLocation
-nowhere = record { byte = record { 0 = 0 }; line = record { 0 = 0 }; column = record { 0 = 0 } }
 
 abbrev pub spotOf : Option (ℤ × ℤ) → Hotspot
 spotOf none = Absent
