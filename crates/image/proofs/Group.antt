@@ -28,7 +28,7 @@ use Rattle.lexical.specs.Hex.{hexOf, hexv, hexDigit, hexStart, hexDigits, hexUn
 use Rattle.decoder.specs.Data.{item}
 use Rattle.image.specs.declared.Quick.{Quick}
 use Rattle.image.specs.declared.Quick.the-variants.{Hit, Miss}
-use Rattle.image.specs.Quick.{Meets, valuesFrom, hexTable}
+use Rattle.image.specs.Quick.{Meets}
 
 pub miss : (d : Result ℕ) → Meets Miss d
 miss d = record { hit = λ v q e. let z : _≡_ {A = ℕ} 0 1 = cc in absurd (omega arith) }
@@ -150,13 +150,3 @@ module _ (t : List ℕ) (p : TextLocation) {r : Bool} (e : r ≡ hasLeft t p 6) 
       record { hit = λ v p′ y. let a : v ≡ hi * 16 + lo = cc in let b : p′ ≡ q = cc in rw (a, b) d }
 
 pub ruleset quick·laws = (miss, six-first, six-inside, six-fits, quick-hit)
-
--- the table's rule, at each entry
-values-at : (k n b : ℕ) → b < n → getD (valuesFrom k n) b 0 ≡ hexOf (k + b)
-values-at k zero b h = absurd (omega arith)
-values-at k (suc n) zero h = ap hexOf (omega arith)
-values-at k (suc n) (suc b) h = values-at (suc k) n b (omega arith) ∙ ap hexOf (omega arith)
-
-pub hex-there : (s : List ℕ) (b : ℕ) → s ≡ hexTable → b < 256 → getD s b 0 ≡ hexOf b
-unfolding hexTable
-hex-there s b e h = rw e (values-at 0 256 b h ∙ ap hexOf (omega arith))

@@ -3,11 +3,11 @@ ghost use mathlib.Core.Path.{_≡_};
 ghost use Prim.Native.Nat.{_+_, _≤_};
 ghost use lib.ListN.{length};
 ghost use Rattle.lexical.specs.Lexical.{toldByte};
-ghost use Rattle.lexical.specs.Hex.{hexOf};
+ghost use Rattle.lexical.specs.Hex.{hexOf, hexTable};
 ghost use Rattle.decoder.specs.Data.{item};
 ghost use Rattle.image.specs.Cells.{ink};
 ghost use Rattle.image.specs.Stores.{dab};
-ghost use Rattle.image.specs.Quick.{Meets, hexTable};
+ghost use Rattle.image.specs.Quick.{Meets};
 ghost use Rattle.image.specs.Rows.{Filled};
 ghost use Rattle.image.specs.Reading.{Sided, Pictured, Imaged};
 use decoder::read_data_byte;
@@ -16,15 +16,13 @@ use header::HeaderRead;
 use header::XbmDecodeError;
 use header::XbmHeaderData;
 use header::read_xbm_header;
-use hex_table::HEX;
 use lexical::ByteRead;
 use lexical::Passed;
 use lexical::XbmPart;
+use lexical::hex_values;
 use text::TextLocation;
 use text::along;
 use text::has_left;
-
-mod hex_table;
 
 // The rows read; a refusal; or rows that are not the picture's.
 pub enum Rows {
@@ -142,7 +140,7 @@ fn read_rows(text: &[u8], place: TextLocation, width: u32, height: u32, pixels: 
     let w = width as usize;
     let h = height as usize;
     let rows = pixels.len() / w;
-    let table = HEX;
+    let table = hex_values();
     let mut at = place;
     let mut first = true;
     let mut y: usize = 0;

@@ -6,7 +6,8 @@ ghost use lib.ListN.{length, drop};
 ghost use Rattle.text.specs.Reader.{ok};
 ghost use Rattle.lexical.specs.Lexical.{isBlank, isLoose, number, told, onto, toldByte, anyByte, skip, gap, fixed, lineEnd, lineOf, lineRest, leading};
 ghost use Rattle.lexical.specs.Token.{Tokened};
-ghost use Rattle.lexical.specs.Hex.{hexOf, isMark, hexDigit, hexStart, hexByte};
+ghost use Rattle.lexical.specs.Hex.{hexOf, hexTable, isMark, hexDigit, hexStart, hexByte};
+use hex_table::HEX;
 use text::Peeked;
 use text::TextLocation;
 use text::Took;
@@ -15,6 +16,8 @@ use text::has_left;
 use text::past_line;
 use text::peek;
 use text::take;
+
+mod hex_table;
 
 // The part of the file in which a rule is broken.
 pub enum XbmPart {
@@ -310,6 +313,13 @@ pub fn hex_value(b: u8) -> u8
         return b - b'a' + 10;
     }
     16
+}
+
+// The same of all bytes. Call it once, above a loop, and lend it down.
+pub fn hex_values() -> [u8; 256]
+    ensures { λ r. ⌜ r ≡ hexTable ⌝ }
+{
+    HEX
 }
 
 // Read a single hex digit, either upper or lower case.
