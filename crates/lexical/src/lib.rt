@@ -4,7 +4,7 @@ ghost use mathlib.Core.Path.{_≡_};
 ghost use Prim.Native.Nat.{_+_};
 ghost use lib.ListN.{length, drop};
 ghost use Rattle.text.specs.Reader.{ok};
-ghost use Rattle.lexical.specs.Lexical.{isBlank, isLoose, number, told, onto, toldByte, anyByte, skip, gap, fixed, lineEnd, lineOf, lineRest, leading};
+ghost use Rattle.lexical.specs.Lexical.{isBlank, isLoose, spaceOf, number, told, onto, toldByte, anyByte, skip, gap, fixed, lineEnd, lineOf, lineRest, leading};
 ghost use Rattle.lexical.specs.Token.{Tokened};
 ghost use Rattle.lexical.specs.Hex.{hexOf, hexTable, isMark, hexDigit, hexStart, hexByte};
 use hex_table::HEX;
@@ -85,15 +85,25 @@ pub fn is_loose(b: u8) -> bool
     b == b'\n'
 }
 
-// Blanks or none.
-fn skip_blanks(text: &[u8], place: TextLocation) -> TextLocation
-    ensures { λ r. ⌜ ok tt r ≡ skip isBlank (now (text .entry)) place ⌝ }
+// Blanks, or loose space.
+fn is_space(b: u8, loose: bool) -> bool
+    ensures { λ r. ⌜ r ≡ spaceOf loose b ⌝ }
+{
+    if loose {
+        return is_loose(b);
+    }
+    is_blank(b)
+}
+
+// Blanks or loose space, also none.
+fn skip_space(text: &[u8], place: TextLocation, loose: bool) -> TextLocation
+    ensures { λ r. ⌜ ok tt r ≡ skip (spaceOf loose) (now (text .entry)) place ⌝ }
 {
     let mut at = place;
     loop {
         match take(text, at) {
             Took::Next(b, next) => {
-                if is_blank(b) {
+                if is_space(b, loose) {
                     at = next;
                 } else {
                     return at;
@@ -108,19 +118,7 @@ fn skip_blanks(text: &[u8], place: TextLocation) -> TextLocation
 pub fn read_optional_whitespace(text: &[u8], place: TextLocation) -> TextLocation
     ensures { λ r. ⌜ ok tt r ≡ skip isLoose (now (text .entry)) place ⌝ }
 {
-    let mut at = place;
-    loop {
-        match take(text, at) {
-            Took::Next(b, next) => {
-                if is_loose(b) {
-                    at = next;
-                } else {
-                    return at;
-                }
-            }
-            Took::End => return at,
-        }
-    }
+    skip_space(text, place, true)
 }
 
 // Read a single byte.
@@ -140,7 +138,7 @@ pub fn read_whitespace_gap(text: &[u8], place: TextLocation, part: XbmPart) -> P
     match take(text, place) {
         Took::Next(b, next) => {
             if is_blank(b) {
-                Passed::To(skip_blanks(text, next))
+                Passed::To(skip_space(text, next, false))
             } else {
                 Passed::Refused(part, next)
             }
@@ -153,7 +151,7 @@ pub fn read_whitespace_gap(text: &[u8], place: TextLocation, part: XbmPart) -> P
 pub fn read_to_newline(text: &[u8], place: TextLocation, part: XbmPart) -> Passed
     ensures { λ r. ⌜ told r ≡ lineEnd (number part) (now (text .entry)) place ⌝ }
 {
-    let at = skip_blanks(text, place);
+    let at = skip_space(text, place, false);
     match take(text, at) {
         Took::Next(b, next) => {
             if b == b'\n' {
