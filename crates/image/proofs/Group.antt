@@ -1,24 +1,21 @@
 -- `, 0xHH` read at once.
-use Prim.Native.Nat.{ℕ, zero, suc, _+_, _-_, _*_, _≤_, _<_, _^_}
+use Prim.Native.Nat.{ℕ, _+_, _-_, _*_, _≤_, _<_, _^_}
 use native.Mathlib.Omega.{arith}
 use mir.Syntax.{w64}
 use mir.Val.{Fits}
-use borrow.Author.Tests.{lt-ltb, eq-eqb, ne-eqb, eqb-true, not-false}
-use mathlib.Core.Path.{_≡_, refl, sym, ap, _∙_}
-use mathlib.Core.Option.{Option, none, some}
+use borrow.Author.Tests.{lt-ltb, eqb-true, not-false}
+use mathlib.Core.Path.{_≡_, refl, sym, _∙_}
 use mathlib.Core.List.{List, [], _∷_}
 use mathlib.Core.Bool.{Bool, true, false, not}
 use lib.ListN.{length, drop, getD}
 use native.Mathlib.Numerals.{add-one}
 use lib.Seq.{drop-cons}
-use lib.Dec.{eqb, eqb→eq}
+use lib.Dec.{eqb}
 use Rattle.text.specs.declared.TextLocation.{TextLocation}
-use Rattle.text.specs.declared.Took.{Took}
-use Rattle.text.specs.declared.Took.the-variants.{Next, End}
-use Rattle.text.specs.Place.{pick, byteOf, hasLeft, alongLine, rest, after, past, tookAt}
+use Rattle.text.specs.Place.{byteOf, hasLeft, alongLine, rest, after, past}
 use Rattle.text.specs.Rest.{Sound, after-rest}
 use Rattle.text.specs.PlaceLaws.{left-inside, left-rest, along-past}
-use Rattle.text.specs.Reader.{Result, ok, stop, Reader, _>>=_, _>>_}
+use Rattle.text.specs.Reader.{Result, ok, stop, _>>=_, _>>_}
 use Rattle.text.specs.Leaf.{one, run, give}
 use Rattle.lexical.specs.Lexical.{isLoose, isBlank, skip, byte, is, fixed, number, toldByte}
 use Rattle.lexical.specs.declared.ByteRead.{ByteRead}

@@ -1,8 +1,9 @@
 -- What the ways to build and to judge a place are in terms of `after`, `past` and `rest`: a section each. Assumes nothing.
-use Prim.Native.Nat.{ℕ, zero, suc, _+_, _-_, _%_, _^_, _≤_, _<_, min}
+use Prim.Native.Nat.{ℕ, suc, _+_, _-_, _%_, _^_, _≤_, _<_, min}
 use native.Mathlib.Nat.{le-of-lt}
 use native.Mathlib.Omega.{arith}
-use mathlib.Core.Path.{_≡_, refl, sym, ap, _∙_}
+use mathlib.Core.Path.{_≡_, refl, sym, _∙_}
+use mathlib.Core.Logic.{_↔_}
 use mathlib.Core.List.{List, [], _∷_}
 use mathlib.Core.Bool.{Bool, true, false}
 use lib.ListN.{length, drop, length-drop, drop-of-length-le}
@@ -46,16 +47,6 @@ module _ (t : List ℕ) (p : TextLocation) where
   pub foreign-not : byteOf p ≤ length t → Sound p → isForeign t p ≡ false
   foreign-not h s = rw (le-ltb _ _ h, le-ltb _ _ (s .column)) (le-ltb _ _ (s .line))
 
-  -- the ways to be foreign
-  pub foreign-byte : length t < p .byte .0 → isForeign t p ≡ true
-  foreign-byte h = rw (lt-ltb _ _ h)
-
-  pub foreign-column : p .byte .0 < p .column .0 → isForeign t p ≡ true
-  foreign-column h = rw (lt-ltb (p .byte .0) (p .column .0) h, pick-same)
-
-  pub foreign-line : p .byte .0 + 1 < p .line .0 → isForeign t p ≡ true
-  foreign-line h = rw (lt-ltb (p .byte .0 + 1) (p .line .0) h, pick-same, pick-same)
-
   pub foreign-inside : isForeign t p ≡ false → (byteOf p ≤ length t) × Sound p
   foreign-inside = go (ltb (length t) (p .byte .0)) (ltb (p .byte .0) (p .column .0)) (ltb (p .byte .0 + 1) (p .line .0)) refl refl refl
     where
@@ -65,6 +56,16 @@ module _ (t : List ℕ) (p : TextLocation) where
       go false true z hx hy hz e = let k : _≡_ {A = ℕ} 0 1 = cc in absurd (omega arith)
       go false false true hx hy hz e = let k : _≡_ {A = ℕ} 0 1 = cc in absurd (omega arith)
       go false false false hx hy hz e = (ltb-false _ _ hx, record { column = ltb-false _ _ hy; line = ltb-false _ _ hz })
+
+  -- the ways to be foreign
+  pub foreign-byte : length t < p .byte .0 → isForeign t p ≡ true
+  foreign-byte h = rw (lt-ltb _ _ h)
+
+  pub foreign-column : p .byte .0 < p .column .0 → isForeign t p ≡ true
+  foreign-column h = rw (lt-ltb (p .byte .0) (p .column .0) h, pick-same)
+
+  pub foreign-line : p .byte .0 + 1 < p .line .0 → isForeign t p ≡ true
+  foreign-line h = rw (lt-ltb (p .byte .0 + 1) (p .line .0) h, pick-same, pick-same)
 
   -- nothing remains at a foreign place
   pub foreign-rest : isForeign t p ≡ true → rest t p ≡ []
@@ -104,7 +105,6 @@ module _ (t : List ℕ) (p : TextLocation) (n : ℕ) where
   pub left-rest : hasLeft t p n ≡ true → rest t p ≡ drop (byteOf p) t
   left-rest e = sound-rest t p (left-inside e .1)
 
-  -- n bytes or more remain exactly where n are left
   pub left-length : hasLeft t p n ≡ true → n ≤ length (rest t p)
   left-length e = let (h, s) = left-inside e in rw (sound-rest t p s, length-drop (byteOf p) t) (omega arith)
 
@@ -114,6 +114,14 @@ module _ (t : List ℕ) (p : TextLocation) (n : ℕ) where
       go : (x : Bool) → isForeign t p ≡ x → pick x false (leb (byteOf p + n) (length t)) ≡ false → length (rest t p) < n
       go true f e = rw (foreign-rest t p f) h
       go false f e = rw (sound-rest t p (foreign-inside t p f .1), length-drop (byteOf p) t) (omega (arith, leb-false (byteOf p + n) (length t) e))
+
+  -- n bytes or more remain exactly where n are left
+  pub left-exactly : 0 < n → (hasLeft t p n ≡ true) ↔ (n ≤ length (rest t p))
+  left-exactly h = (left-length, λ k. go (hasLeft t p n) refl k)
+    where
+      go : (x : Bool) → hasLeft t p n ≡ x → n ≤ length (rest t p) → hasLeft t p n ≡ true
+      go true e k = e
+      go false e k = absurd (omega (arith, left-short h e))
 
 pub left-none : (t : List ℕ) (p : TextLocation) → hasLeft t p 1 ≡ false → rest t p ≡ []
 left-none t p e = go (rest t p) (left-short t p 1 (omega arith) e)
