@@ -8,10 +8,9 @@ use mathlib.Core.Path.{_≡_, refl, sym, ap, _∙_}
 use mathlib.Core.Option.{Option, none, some}
 use mathlib.Core.List.{List}
 use mathlib.Core.Bool.{Bool, true, false}
-use lib.ListN.{length}
 use lib.Dec.{eqb, ltb}
 use Rattle.text.specs.declared.TextLocation.{TextLocation}
-use Rattle.text.specs.Place.{pick}
+use Rattle.text.specs.Place.{pick, isForeign}
 use Rattle.text.specs.Reader.{Result, ok, stop, bad, endOf, Reader, _>>=_, _>>_}
 use Rattle.text.specs.Leaf.{give}
 use Rattle.text.specs.Outcome.{Outcome, accepted, refused, unplaced, outcome}
@@ -48,21 +47,11 @@ module _ (t : List ℕ) (d : XbmStreamDecoder) where
       unfolding foreign
       foreign-position h = rw (ne-eqb _ _ a, ne-eqb _ _ b, ← e, lt-ltb _ _ h)
 
-      module _ (c : d .«current_position» ≤ s) where
-        pub foreign-byte : length t < d .location .byte .0 → true ≡ foreign t d
-        unfolding foreign
-        foreign-byte h = rw (ne-eqb _ _ a, ne-eqb _ _ b, ← e, le-ltb _ _ c, lt-ltb _ _ h)
+      pub foreign-place : d .«current_position» ≤ s → {f : Bool} → f ≡ isForeign t (d .location) → f ≡ foreign t d
+      unfolding foreign
+      foreign-place c k = rw (ne-eqb _ _ a, ne-eqb _ _ b, ← e, le-ltb _ _ c) k
 
-        module _ (f : d .location .byte .0 ≤ length t) where
-          pub foreign-column : d .location .byte .0 < d .location .column .0 → true ≡ foreign t d
-          unfolding foreign
-          foreign-column h = rw (ne-eqb _ _ a, ne-eqb _ _ b, ← e, le-ltb _ _ c, le-ltb _ _ f, lt-ltb _ _ h)
-
-          pub foreign-line : d .location .column .0 ≤ d .location .byte .0 → ltb (d .location .byte .0 + 1) (d .location .line .0) ≡ foreign t d
-          unfolding foreign
-          foreign-line h = rw (ne-eqb _ _ a, ne-eqb _ _ b, ← e, le-ltb _ _ c, le-ltb _ _ f, le-ltb _ _ h)
-
-pub ruleset foreign·laws = (foreign-width, foreign-height, foreign-position, foreign-byte, foreign-column, foreign-line)
+pub ruleset foreign·laws = (foreign-width, foreign-height, foreign-position, foreign-place)
 
 -- one call
 abbrev stepped : Outcome (Option ℕ) → XbmStreamDecoder → Step

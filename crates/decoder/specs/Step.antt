@@ -4,10 +4,9 @@ use mathlib.Core.Path.{_≡_}
 use mathlib.Core.Option.{Option, none, some}
 use mathlib.Core.Bool.{Bool, true, false, _||_}
 use mathlib.Core.List.{List}
-use lib.ListN.{length}
 use lib.Dec.{eqb, ltb}
 use Rattle.text.specs.declared.TextLocation.{TextLocation}
-use Rattle.text.specs.Place.{pick}
+use Rattle.text.specs.Place.{pick, isForeign}
 use Rattle.text.specs.Reader.{Result, endOf, Reader, _>>=_, _>>_}
 use Rattle.text.specs.Leaf.{give}
 use Rattle.text.specs.Outcome.{Outcome, accepted, refused, unplaced, outcome}
@@ -25,15 +24,13 @@ rowBytes w = (w + 7) / 8
 abbrev pub bytesOf : ℕ → ℕ → ℕ
 bytesOf w h = rowBytes w * h
 
--- document 01's foreign decoder: numbers that no header of this text gave
+-- document 01's foreign decoder: numbers that no header of this text gave, or a place that the text has not
 unfoldable pub foreign : List ℕ → XbmStreamDecoder → Bool
 foreign t d =
     pick (eqb (d .width) 0) true
     (pick (eqb (d .height) 0) true
     (pick (ltb (bytesOf (d .width) (d .height)) (d .«current_position»)) true
-    (pick (ltb (length t) (d .location .byte .0)) true
-    (pick (ltb (d .location .byte .0) (d .location .column .0)) true
-    (ltb (d .location .byte .0 + 1) (d .location .line .0))))))
+    (isForeign t (d .location))))
 
 -- a data byte is left
 abbrev pub more : XbmStreamDecoder → Bool

@@ -15,6 +15,7 @@ use lexical::read_optional_whitespace;
 use lexical::then_fixed;
 use text::TextLocation;
 use text::Took;
+use text::is_foreign_place;
 use text::take;
 
 // XBM stream decoder: the sides, how many data bytes were asked for, and the place in the text.
@@ -160,16 +161,7 @@ fn is_foreign(text: &[u8], d: XbmStreamDecoder) -> bool
         return true;
     }
     let place = d.location;
-    let at = place.byte.0;
-    let line = place.line.0;
-    let column = place.column.0;
-    if (text.len() as u64) < at {
-        return true;
-    }
-    if at < column {
-        return true;
-    }
-    at + 1 < line
+    is_foreign_place(text, place)
 }
 
 // The next byte of the raw image data, and the decoder after it. A data byte is counted before it is read.

@@ -1,23 +1,22 @@
 -- `, 0xHH` read at once.
-use Prim.Native.Nat.{ℕ, zero, suc, _+_, _-_, _*_, _≤_, _<_, _^_}
+use Prim.Native.Nat.{ℕ, _+_, _-_, _*_, _≤_, _<_, _^_}
 use native.Mathlib.Omega.{arith}
-use borrow.Author.Tests.{lt-ltb, eq-eqb, ne-eqb, eqb-true}
-use mathlib.Core.Path.{_≡_, refl, sym, ap, _∙_}
-use mathlib.Core.Option.{Option, none, some}
+use mir.Syntax.{w64}
+use mir.Val.{Fits}
+use borrow.Author.Tests.{lt-ltb, eqb-true, not-false}
+use mathlib.Core.Path.{_≡_, refl, sym, _∙_}
 use mathlib.Core.List.{List, [], _∷_}
-use mathlib.Core.Bool.{Bool, true, false}
+use mathlib.Core.Bool.{Bool, true, false, not}
 use lib.ListN.{length, drop, getD}
 use native.Mathlib.Numerals.{add-one}
 use lib.Seq.{drop-cons}
-use lib.Dec.{eqb, eqb→eq}
+use lib.Dec.{eqb}
 use Rattle.text.specs.declared.TextLocation.{TextLocation}
-use Rattle.text.specs.declared.Took.{Took}
-use Rattle.text.specs.declared.Took.the-variants.{Next, End}
-use Rattle.text.specs.Place.{pick, rest, after, placeOf, tookAt}
-use Rattle.text.specs.Rest.{after-rest}
-use Rattle.text.specs.Reader.{Result, ok, stop, Reader, _>>=_, _>>_}
+use Rattle.text.specs.Place.{byteOf, hasLeft, alongLine, rest, after, past}
+use Rattle.text.specs.Rest.{Sound, after-rest}
+use Rattle.text.specs.PlaceLaws.{left-inside, left-rest, along-past}
+use Rattle.text.specs.Reader.{Result, ok, stop, _>>=_, _>>_}
 use Rattle.text.specs.Leaf.{one, run, give}
-use Rattle.text.proofs.Laws.{rest-byte}
 use Rattle.lexical.specs.Lexical.{isLoose, isBlank, skip, byte, is, fixed, number, toldByte}
 use Rattle.lexical.specs.declared.ByteRead.{ByteRead}
 use Rattle.lexical.specs.declared.ByteRead.the-variants.{Got, Refused as NotGot}
@@ -26,7 +25,7 @@ use Rattle.lexical.specs.Hex.{hexOf, hexv, hexDigit, hexStart, hexDigits, hexUn
 use Rattle.decoder.specs.Data.{item}
 use Rattle.image.specs.declared.Quick.{Quick}
 use Rattle.image.specs.declared.Quick.the-variants.{Hit, Miss}
-use Rattle.image.specs.Quick.{Meets, valuesFrom, hexTable}
+use Rattle.image.specs.Quick.{Meets}
 
 pub miss : (d : Result ℕ) → Meets Miss d
 miss d = record { hit = λ v q e. let z : _≡_ {A = ℕ} 0 1 = cc in absurd (omega arith) }
@@ -72,16 +71,12 @@ digit-not b h = go (eqb b 10) refl
     go false k = refl
 
 module _ (t : List ℕ) (p : TextLocation) where
-  six : (a b : ℕ) → hexOf a < 16 → hexOf b < 16
-      → after b (after a (after 120 (after 48 (after 32 (after 44 p))))) ≡ placeOf (p .byte .0 + 6) (p .line .0) (p .column .0 + 6)
-  unfolding after
-  six a b ha hb =
-      let x : p .byte .0 + 1 + 1 + 1 + 1 + 1 + 1 ≡ p .byte .0 + 6 = omega arith in
-      let y : p .column .0 + 1 + 1 + 1 + 1 + 1 + 1 ≡ p .column .0 + 6 = omega arith in
-      rw (digit-not a ha, digit-not b hb, x, y)
+  -- six bytes on are `, 0xHH` past
+  six : (a b : ℕ) → hexOf a < 16 → hexOf b < 16 → Sound p → byteOf p + 6 < 2 ^ 64 → alongLine p 6 ≡ past p (44 ∷ 32 ∷ 48 ∷ 120 ∷ a ∷ b ∷ [])
+  six a b ha hb s k = along-past p (44 ∷ 32 ∷ 48 ∷ 120 ∷ a ∷ b ∷ []) s (rw (digit-not a ha, digit-not b hb)) k
 
   six-read : (a b : ℕ) (l : List ℕ) → rest t p ≡ 44 ∷ 32 ∷ 48 ∷ 120 ∷ a ∷ b ∷ l → hexOf a < 16 → hexOf b < 16
-      → item false t p ≡ ok (hexOf a * 16 + hexOf b) (placeOf (p .byte .0 + 6) (p .line .0) (p .column .0 + 6))
+      → item false t p ≡ ok (hexOf a * 16 + hexOf b) (past p (44 ∷ 32 ∷ 48 ∷ 120 ∷ a ∷ b ∷ []))
   unfolding item hexUnit hexDigits hexStart fixed give _>>=_ isLoose isBlank isMark
   six-read a b l e ha hb =
       let p1 = after 44 p in
@@ -102,49 +97,53 @@ module _ (t : List ℕ) (p : TextLocation) where
         byte-on t p3 120 _ e3 6 isMark refl,
         digit-on t p4 a _ e4 6 ha,
         digit-on t (after a p4) b _ e5 6 hb,
-        six a b ha hb,
       )
 
 drop-at : (s : List ℕ) (n m : ℕ) → m ≡ n + 1 → n < length s → drop n s ≡ getD s n 0 ∷ drop m s
 drop-at s n m e h = rw (e, add-one, drop-cons s n 0 h)
 
-module _ (t : List ℕ) (p : TextLocation) (f : Bool) where
-  rest-six : p .column .0 ≤ p .byte .0 → p .line .0 ≤ p .byte .0 + 1 → p .byte .0 + 6 ≤ length t
-      → rest t p ≡ getD t (p .byte .0) 0 ∷ getD t (p .byte .0 + 1) 0 ∷ getD t (p .byte .0 + 2) 0 ∷ getD t (p .byte .0 + 3) 0 ∷ getD t (p .byte .0 + 4) 0
-      ∷ getD t (p .byte .0 + 5) 0 ∷ drop (p .byte .0 + 6) t
-  rest-six hc hl hb =
-      rest-byte t p hc hl (omega arith)
+module _ (t : List ℕ) (p : TextLocation) {r : Bool} (e : r ≡ hasLeft t p 6) (g : not r ≡ false) where
+  h : r ≡ true
+  h = not-false r g
+
+  inside : byteOf p + 6 ≤ length t
+  inside = left-inside t p 6 (sym e ∙ h) .0
+
+  rest-six : rest t p ≡ getD t (byteOf p) 0 ∷ getD t (byteOf p + 1) 0 ∷ getD t (byteOf p + 2) 0 ∷ getD t (byteOf p + 3) 0 ∷ getD t (byteOf p + 4) 0
+      ∷ getD t (byteOf p + 5) 0 ∷ drop (byteOf p + 6) t
+  rest-six =
+      let i : byteOf p + 6 ≤ length t = inside in
+      left-rest t p 6 (sym e ∙ h)
       ∙ rw (
-        drop-at t (p .byte .0 + 1) (p .byte .0 + 2) (omega arith) (omega arith),
-        drop-at t (p .byte .0 + 2) (p .byte .0 + 3) (omega arith) (omega arith),
-        drop-at t (p .byte .0 + 3) (p .byte .0 + 4) (omega arith) (omega arith),
-        drop-at t (p .byte .0 + 4) (p .byte .0 + 5) (omega arith) (omega arith),
-        drop-at t (p .byte .0 + 5) (p .byte .0 + 6) (omega arith) (omega arith),
+        drop-at t (byteOf p) (byteOf p + 1) (omega arith) (omega arith),
+        drop-at t (byteOf p + 1) (byteOf p + 2) (omega arith) (omega arith),
+        drop-at t (byteOf p + 2) (byteOf p + 3) (omega arith) (omega arith),
+        drop-at t (byteOf p + 3) (byteOf p + 4) (omega arith) (omega arith),
+        drop-at t (byteOf p + 4) (byteOf p + 5) (omega arith) (omega arith),
+        drop-at t (byteOf p + 5) (byteOf p + 6) (omega arith) (omega arith),
       )
 
-  pub quick-hit : {hi lo : ℕ} → f ≡ false → 6 ≤ length t → p .byte .0 ≤ length t - 6 → p .column .0 ≤ p .byte .0 → p .line .0 ≤ p .byte .0 + 1
-      → getD t (p .byte .0) 0 ≡ 44 → getD t (p .byte .0 + 1) 0 ≡ 32 → getD t (p .byte .0 + 2) 0 ≡ 48 → getD t (p .byte .0 + 3) 0 ≡ 120
-      → hi ≡ hexOf (getD t (p .byte .0 + 4) 0) → hi < 16 → lo ≡ hexOf (getD t (p .byte .0 + 5) 0) → lo < 16
-      → Meets (Hit (hi * 16 + lo) (placeOf (p .byte .0 + 6) (p .line .0) (p .column .0 + 6))) (item f t p)
-  quick-hit {hi} {lo} hf h6 hb hc hl c0 c1 c2 c3 eh hh el hlo =
-      record {
-        hit = λ v q e.
-            let d : ok (hi * 16 + lo) (placeOf (p .byte .0 + 6) (p .line .0) (p .column .0 + 6)) ≡ item f t p
-            = rw (hf, eh, el) (sym (six-read t p (getD t (p .byte .0 + 4) 0) (getD t (p .byte .0 + 5) 0) (drop (p .byte .0 + 6) t)
-            (rw (← c0, ← c1, ← c2, ← c3) (rest-six hc hl (omega arith))) (rw (← eh) hh) (rw (← el) hlo))) in
-            let a : v ≡ hi * 16 + lo = cc in
-            let b : q ≡ placeOf (p .byte .0 + 6) (p .line .0) (p .column .0 + 6) = cc in
-            rw (a, b) d;
-      }
+  -- the six bytes are in the text
+  pub six-first : byteOf p < length t
+  six-first = omega (arith, inside)
 
-pub ruleset quick·laws = (miss, quick-hit)
+  pub six-inside : (k : ℕ) → k < 6 → byteOf p + k < length t
+  six-inside k l = omega (arith, inside)
 
--- the table's rule, at each entry
-values-at : (k n b : ℕ) → b < n → getD (valuesFrom k n) b 0 ≡ hexOf (k + b)
-values-at k zero b h = absurd (omega arith)
-values-at k (suc n) zero h = ap hexOf (omega arith)
-values-at k (suc n) (suc b) h = values-at (suc k) n b (omega arith) ∙ ap hexOf (omega arith)
+  pub six-fits : (k : ℕ) → k < 6 → length t * 1 < 2 ^ 63 → Fits w64 (byteOf p + k)
+  six-fits k l m = record { fits = omega (arith, inside) }
 
-pub hex-there : (s : List ℕ) (b : ℕ) → s ≡ hexTable → b < 256 → getD s b 0 ≡ hexOf b
-unfolding hexTable
-hex-there s b e h = rw e (values-at 0 256 b h ∙ ap hexOf (omega arith))
+  pub quick-hit : {f : Bool} {hi lo : ℕ} {q : TextLocation} → f ≡ false → length t * 1 < 2 ^ 63
+      → getD t (byteOf p) 0 ≡ 44 → getD t (byteOf p + 1) 0 ≡ 32 → getD t (byteOf p + 2) 0 ≡ 48 → getD t (byteOf p + 3) 0 ≡ 120
+      → hi ≡ hexOf (getD t (byteOf p + 4) 0) → hi < 16 → lo ≡ hexOf (getD t (byteOf p + 5) 0) → lo < 16 → q ≡ alongLine p 6
+      → Meets (Hit (hi * 16 + lo) q) (item f t p)
+  quick-hit {f} {hi} {lo} {q} hf room c0 c1 c2 c3 eh hh el hl to =
+      let i : byteOf p + 6 ≤ length t = inside in
+      let u : hexOf (getD t (byteOf p + 4) 0) < 16 = rw (← eh) hh in
+      let w : hexOf (getD t (byteOf p + 5) 0) < 16 = rw (← el) hl in
+      let d : ok (hi * 16 + lo) q ≡ item f t p
+      = rw (hf, eh, el, to, six t p (getD t (byteOf p + 4) 0) (getD t (byteOf p + 5) 0) u w (left-inside t p 6 (sym e ∙ h) .1) (omega arith))
+      (sym (six-read t p (getD t (byteOf p + 4) 0) (getD t (byteOf p + 5) 0) (drop (byteOf p + 6) t) (rw (← c0, ← c1, ← c2, ← c3) rest-six) u w)) in
+      record { hit = λ v p′ y. let a : v ≡ hi * 16 + lo = cc in let b : p′ ≡ q = cc in rw (a, b) d }
+
+pub ruleset quick·laws = (miss, six-first, six-inside, six-fits, quick-hit)

@@ -3,13 +3,13 @@ ghost use mathlib.Core.Path.{_≡_};
 ghost use Prim.Native.Nat.{_+_, _*_, _≤_, min};
 ghost use lib.ListN.{length, take};
 ghost use Rattle.lexical.specs.Lexical.{toldByte};
-ghost use Rattle.lexical.specs.Hex.{hexOf};
+ghost use Rattle.lexical.specs.Hex.{hexOf, hexTable};
 ghost use Rattle.decoder.specs.Data.{item};
 ghost use Rattle.image.specs.Cells.{ink};
 ghost use Rattle.image.specs.Ink.{inkAt, inkOf};
 ghost use Rattle.image.specs.Limited.{limitedOf, Bounded, Limited};
 ghost use Rattle.image.specs.Stores.{dab, byteStored};
-ghost use Rattle.image.specs.Quick.{Meets, hexTable};
+ghost use Rattle.image.specs.Quick.{Meets};
 ghost use Rattle.image.specs.Rows.{Filled};
 ghost use Rattle.image.specs.Reading.{Sided, Pictured, Imaged};
 use decoder::read_data_byte;
@@ -20,16 +20,13 @@ use header::XbmDecodeError;
 use header::XbmHeaderData;
 use header::read_xbm_header;
 use header::refusal_of;
-use hex_table::HEX;
 use lexical::ByteRead;
 use lexical::Passed;
 use lexical::XbmPart;
-use text::Byte;
-use text::Column;
-use text::Line;
+use lexical::hex_values;
 use text::TextLocation;
-
-mod hex_table;
+use text::along;
+use text::has_left;
 
 // The rows read; a refusal; or rows that are not the picture's.
 pub enum Rows {
@@ -84,23 +81,10 @@ fn quick_byte(text: &[u8], place: TextLocation, first: bool, table: &[u8; 256]) 
     if first {
         return Quick::Miss;
     }
-    let at = place.byte.0;
-    let line = place.line.0;
-    let column = place.column.0;
-    let size = text.len() as u64;
-    if size < 6 {
+    if !has_left(text, place, 6) {
         return Quick::Miss;
     }
-    if at > size - 6 {
-        return Quick::Miss;
-    }
-    if at < column {
-        return Quick::Miss;
-    }
-    if at + 1 < line {
-        return Quick::Miss;
-    }
-    let i = at as usize;
+    let i = place.byte.0 as usize;
     if text[i] != b',' {
         return Quick::Miss;
     }
@@ -121,14 +105,7 @@ fn quick_byte(text: &[u8], place: TextLocation, first: bool, table: &[u8; 256]) 
     if lo >= 16 {
         return Quick::Miss;
     }
-    Quick::Hit(
-        hi * 16 + lo,
-        TextLocation {
-            byte: Byte(at + 6),
-            line: Line(line),
-            column: Column(column + 6),
-        },
-    )
+    Quick::Hit(hi * 16 + lo, along(place, 6))
 }
 
 // The next data byte: the common form at once, anything else by the plain reader. The plain answer is taken apart and made again, so that
@@ -200,7 +177,7 @@ fn read_rows(text: &[u8], place: TextLocation, width: u32, height: u32, pixels: 
     let w = width as usize;
     let h = height as usize;
     let rows = pixels.len() / w;
-    let table = HEX;
+    let table = hex_values();
     let mut at = place;
     let mut first = true;
     let mut y: usize = 0;

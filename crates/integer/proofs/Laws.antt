@@ -14,7 +14,7 @@ use mir.Syntax.{Width, w32, w64}
 use mir.Val.{SFits, toZ, ofZ, hbits}
 use mir.ValLaws.{toZ-pos, toZ-ofZ}
 use Rattle.text.specs.Place.{pick}
-use Rattle.text.proofs.Laws.{pick-same}
+use Rattle.text.specs.PlaceLaws.{pick-same}
 use Rattle.integer.specs.declared.Unsigned.{Unsigned}
 use Rattle.integer.specs.declared.Unsigned.the-variants.{Value, Bad}
 use Rattle.integer.specs.declared.Signed.{Signed}

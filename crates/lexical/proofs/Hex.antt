@@ -1,13 +1,14 @@
 -- What a step of the code says of hex bytes.
 use mir.Syntax.{w8}
 use mir.Val.{Fits}
-use Prim.Native.Nat.{ℕ, _+_, _-_, _*_, _<_, _≤_}
+use Prim.Native.Nat.{ℕ, zero, suc, _+_, _-_, _*_, _<_, _≤_}
 use native.Mathlib.Omega.{arith}
 use borrow.Author.Tests.{le-leb, lt-leb, lt-ltb, le-ltb, ltb-true}
 use mathlib.Core.Path.{_≡_, refl, sym, ap, _∙_}
 use mathlib.Core.Option.{Option, none, some}
 use mathlib.Core.List.{List, [], _∷_}
 use mathlib.Core.Bool.{Bool, true, false}
+use lib.ListN.{getD}
 use lib.Dec.{ltb, eqb}
 use Rattle.text.specs.declared.TextLocation.{TextLocation}
 use Rattle.text.specs.declared.Took.{Took}
@@ -20,7 +21,7 @@ use Rattle.lexical.specs.declared.XbmPart.{XbmPart}
 use Rattle.lexical.specs.Lexical.{number, toldByte}
 use Rattle.lexical.specs.declared.ByteRead.{ByteRead}
 use Rattle.lexical.specs.declared.ByteRead.the-variants.{Got, Refused}
-use Rattle.lexical.specs.Hex.{hexOf, hexv, hexDigit}
+use Rattle.lexical.specs.Hex.{hexOf, valuesFrom, hexTable, hexv, hexDigit}
 
 -- the value by the range of the byte
 module _ (b : ℕ) where
@@ -91,3 +92,13 @@ module _ (c : ℕ) (t : List ℕ) (i : TextLocation) {m : ByteRead} {v : ℕ} {q
 
   pub byte-fits : {n : ByteRead} {w : ℕ} {r : TextLocation} → toldByte n ≡ hexDigit c t q → n ≡ Got w r → Fits w8 (v * 16 + w)
   byte-fits f k = let a = digit-small c t i e h in let b = digit-small c t q f k in omega arith
+
+-- the table's rule, at each entry
+values-at : (k n b : ℕ) → b < n → getD (valuesFrom k n) b 0 ≡ hexOf (k + b)
+values-at k zero b h = absurd (omega arith)
+values-at k (suc n) zero h = ap hexOf (omega arith)
+values-at k (suc n) (suc b) h = values-at (suc k) n b (omega arith) ∙ ap hexOf (omega arith)
+
+pub hex-there : (s : List ℕ) (b : ℕ) → s ≡ hexTable → b < 256 → getD s b 0 ≡ hexOf b
+unfolding hexTable
+hex-there s b e h = rw e (values-at 0 256 b h ∙ ap hexOf (omega arith))

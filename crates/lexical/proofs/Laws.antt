@@ -23,7 +23,7 @@ use Rattle.lexical.specs.declared.XbmPart.{XbmPart}
 use Rattle.lexical.specs.declared.XbmPart.the-variants.{Width, Height, HotspotX, HotspotY, Array, Data, ArrayEnd, Trailing}
 use Rattle.lexical.specs.declared.Passed.{Passed}
 use Rattle.lexical.specs.declared.Passed.the-variants.{To, Refused}
-use Rattle.lexical.specs.Lexical.{number, told, onto, when, is, anyByte, byte, while, skip, fixed}
+use Rattle.lexical.specs.Lexical.{number, isBlank, isLoose, spaceOf, told, onto, when, is, anyByte, byte, while, skip, fixed}
 
 -- a part's number, with 10 more
 number-small : (part : XbmPart) → number part ≤ 8
@@ -123,6 +123,16 @@ module _ {B : Type 0} (c : ℕ) (class : ℕ → Bool) (f : Unit {0} → Reader 
   then-end m = bind-stop (byte c class) f t i (byte-end c class t i e m)
 
 pub ruleset byte·laws = (byte-yes, byte-not, byte-end, byte-is, byte-other, then-yes, then-not, then-end, bind·laws)
+
+-- the class of a gap, by the flag
+module _ {loose : Bool} (b : ℕ) {w : Bool} where
+  pub space-loose : loose ≡ true → w ≡ isLoose b → w ≡ spaceOf loose b
+  space-loose h k = rw h k
+
+  pub space-blank : loose ≡ false → w ≡ isBlank b → w ≡ spaceOf loose b
+  space-blank h k = rw h k
+
+pub ruleset space·laws = (space-loose, space-blank)
 
 -- a run of a class; z is what the whole run gives
 module _ (class : ℕ → Bool) (t : List ℕ) (i : TextLocation) {z : Result (Unit {0})} {r : Took} (e : r ≡ tookAt t i) where

@@ -1,9 +1,10 @@
 -- Lines that are skipped: a line's rest at once, and the lines before the first define line.
-use Prim.Native.Nat.{ℕ, zero, suc, _+_, _-_, _^_, _<_, _≤_, min}
+use Prim.Native.Nat.{ℕ, zero, suc, _+_, _-_, _*_, _^_, _<_, _≤_}
+use native.Mathlib.Nat.{zero-add}
 use native.Mathlib.Numerals.{add-one}
 use native.Mathlib.Omega.{arith}
 use native.Mathlib.Decide.{decLt}
-use borrow.Author.Tests.{eq-eqb, ne-eqb, eqb-true, lt-ltb, le-ltb, le-leb, lt-leb}
+use borrow.Author.Tests.{eq-eqb, ne-eqb, eqb-true, lt-ltb, le-ltb}
 use mathlib.Core.Path.{_≡_, refl, sym, ap, _∙_}
 use mathlib.Core.Option.{Option, none, some}
 use mathlib.Core.List.{List, [], _∷_}
@@ -14,11 +15,11 @@ use lib.Dec.{eqb, ltb}
 use Rattle.text.specs.declared.TextLocation.{TextLocation}
 use Rattle.text.specs.declared.Peeked.{Peeked}
 use Rattle.text.specs.declared.Peeked.the-variants.{Found, Nothing}
-use Rattle.text.specs.Place.{pick, rest, after, past, placeOf, byteOf, peeked, peekedAt}
-use Rattle.text.specs.Rest.{after-rest}
+use Rattle.text.specs.Place.{pick, hasLeft, alongLine, pastLine, rest, after, past, byteOf, peeked, peekedAt}
+use Rattle.text.specs.Rest.{Sound, after-rest, newlines}
+use Rattle.text.specs.PlaceLaws.{sound-rest, left-inside, left-none, along-past, line-past}
 use Rattle.text.specs.Reader.{Result, ok, stop, bad, then, Reader, _>>=_, _>>_}
 use Rattle.text.specs.Leaf.{one, run, scan, Move, go-on, stay, moved, judge}
-use Rattle.text.proofs.Laws.{rest-past}
 use Rattle.lexical.specs.declared.XbmPart.{XbmPart}
 use Rattle.lexical.specs.declared.Passed.{Passed}
 use Rattle.lexical.specs.declared.Passed.the-variants.{To, Refused}
@@ -73,52 +74,6 @@ line-at c t (b ∷ l) i e = go (eqb b 10) refl (line-at c t l (after b i) (after
     go true h ih = line-newline c t i b e h ∙ rw (h, lt-ltb 0 (suc (length l)) (omega arith)) (ap (λ (n : ℕ). ok tt (after n i)) (eqb-true b 10 h))
     go false h ih = line-other c t i b e h ∙ ih ∙ rw (h, both-more (length (lineOf l)) (length l))
 
--- a line moves only byte and column
-past-line : (l : List ℕ) (i : TextLocation) → past i (lineOf l) ≡ placeOf (byteOf i + length (lineOf l)) (i .line .0) (i .column .0 + length (lineOf l))
-unfolding after
-past-line [] i = let z : byteOf i + 0 ≡ byteOf i = omega arith in let y : i .column .0 + 0 ≡ i .column .0 = omega arith in rw (z, y)
-past-line (b ∷ l) i = go (eqb b 10) refl (past-line l (after b i))
-  where
-    go : (x : Bool) → eqb b 10 ≡ x → past (after b i) (lineOf l) ≡ placeOf (byteOf (after b i) + length (lineOf l)) (after b i .line .0) (after b i .column .0 + length (lineOf l))
-        → past i (pick x [] (b ∷ lineOf l)) ≡ placeOf (byteOf i + length (pick x [] (b ∷ lineOf l))) (i .line .0) (i .column .0 + length (pick x [] (b ∷ lineOf l)))
-    go true h ih = let z : byteOf i + 0 ≡ byteOf i = omega arith in let y : i .column .0 + 0 ≡ i .column .0 = omega arith in rw (z, y)
-    go false h ih =
-        let z : byteOf i + 1 + length (lineOf l) ≡ byteOf i + suc (length (lineOf l)) = omega arith in
-        let y : i .column .0 + 1 + length (lineOf l) ≡ i .column .0 + suc (length (lineOf l)) = omega arith in
-        ih ∙ rw (h, z, y)
-
--- ---- skipping the rest of a line at a place
-
-module _ (c : ℕ) (t : List ℕ) (p : TextLocation) where
-  pub line-past : length t ≤ p .byte .0 → stop c p ≡ lineRest c t p
-  line-past h = sym (line-at c t [] p (rest-past t p h))
-
-  pub line-column : p .byte .0 < p .column .0 → stop c p ≡ lineRest c t p
-  unfolding rest
-  line-column h = sym (line-at c t [] p (rw (lt-leb _ _ h)))
-
-  pub line-line : p .column .0 ≤ p .byte .0 → p .byte .0 + 1 < p .line .0 → stop c p ≡ lineRest c t p
-  unfolding rest
-  line-line g h = sym (line-at c t [] p (rw (le-leb _ _ g, lt-leb _ _ h)))
-
-  module _ (hc : p .column .0 ≤ p .byte .0) (hl : p .line .0 ≤ p .byte .0 + 1) {e : ℕ} (k : e ≡ p .byte .0 + length (lineOf (drop (p .byte .0) t))) where
-    sound : rest t p ≡ drop (p .byte .0) t
-    unfolding rest
-    sound = rw (le-leb _ _ hc, le-leb _ _ hl)
-
-    pub line-to : p .byte .0 < length t → e < length t → p .line .0 + 1 < 2 ^ 64 → ok tt (placeOf (e + 1) (p .line .0 + 1) 0) ≡ lineRest c t p
-    unfolding after
-    line-to hb h m =
-        let l : length (lineOf (drop (p .byte .0) t)) < length (drop (p .byte .0) t) = omega (arith, length-drop (p .byte .0) t) in
-        let z : min (p .line .0 + 1) 18446744073709551615 ≡ p .line .0 + 1 = omega arith in
-        sym (line-at c t (drop (p .byte .0) t) p sound ∙ rw (lt-ltb _ _ l, past-line (drop (p .byte .0) t) p, z, k))
-
-    pub line-out : p .byte .0 < length t → length t ≤ e → stop c (placeOf e (p .line .0) (p .column .0 + (e - p .byte .0))) ≡ lineRest c t p
-    line-out hb h =
-        let l : length (drop (p .byte .0) t) ≤ length (lineOf (drop (p .byte .0) t)) = omega (arith, length-drop (p .byte .0) t) in
-        let z : e - p .byte .0 ≡ length (lineOf (drop (p .byte .0) t)) = omega arith in
-        sym (line-at c t (drop (p .byte .0) t) p sound ∙ rw (le-ltb _ _ l, past-line (drop (p .byte .0) t) p, z, k))
-
 -- the end of a line is within the text
 line-short : (l : List ℕ) → length (lineOf l) ≤ length l
 line-short [] = omega arith
@@ -128,8 +83,42 @@ line-short (b ∷ l) = go (eqb b 10) (line-short l)
     go true h = omega arith
     go false h = omega arith
 
-pub end-within : (t : List ℕ) (n : ℕ) {e : ℕ} → n < length t → e ≡ n + length (lineOf (drop n t)) → (e ≤ length t) × (n ≤ e)
-end-within t n h k = (omega (arith, line-short (drop n t), length-drop n t), omega arith)
+line-plain : (l : List ℕ) → newlines (lineOf l) ≡ 0
+line-plain [] = refl
+line-plain (b ∷ l) = go (eqb b 10) refl (line-plain l)
+  where
+    go : (x : Bool) → eqb b 10 ≡ x → newlines (lineOf l) ≡ 0 → newlines (pick x [] (b ∷ lineOf l)) ≡ 0
+    go true h ih = refl
+    go false h ih = rw (h, zero-add) ih
+
+-- ---- skipping the rest of a line at a place
+
+module _ (c : ℕ) (t : List ℕ) (p : TextLocation) {f : Bool} (g : f ≡ hasLeft t p 1) where
+  pub line-none : f ≡ false → stop c p ≡ lineRest c t p
+  line-none h = sym (line-at c t [] p (left-none t p (sym g ∙ h)))
+
+  module _ (h : f ≡ true) {e : ℕ} (k : e ≡ byteOf p + length (lineOf (drop (byteOf p) t))) (m : length t * 1 < 2 ^ 63) where
+    size : e - byteOf p ≡ length (lineOf (drop (byteOf p) t))
+    size = omega arith
+
+    inside : byteOf p + 1 ≤ length t
+    inside = left-inside t p 1 (sym g ∙ h) .0
+
+    sound : Sound p
+    sound = left-inside t p 1 (sym g ∙ h) .1
+
+    pub line-to : {q : TextLocation} → e < length t → q ≡ pastLine p (e - byteOf p) → ok tt q ≡ lineRest c t p
+    line-to l w =
+        let x : length (lineOf (drop (byteOf p) t)) < length (drop (byteOf p) t) = omega (arith, inside, length-drop (byteOf p) t) in
+        sym (line-at c t (drop (byteOf p) t) p (sound-rest t p sound)
+        ∙ rw (lt-ltb _ _ x, w, size, line-past p (lineOf (drop (byteOf p) t)) sound (line-plain (drop (byteOf p) t)) (omega arith)))
+
+    pub line-out : {q : TextLocation} → length t ≤ e → q ≡ alongLine p (e - byteOf p) → stop c q ≡ lineRest c t p
+    line-out l w =
+        let x : length (drop (byteOf p) t) ≤ length (lineOf (drop (byteOf p) t)) = omega (arith, inside, length-drop (byteOf p) t) in
+        let y : byteOf p + length (lineOf (drop (byteOf p) t)) < 2 ^ 64 = omega (arith, inside, line-short (drop (byteOf p) t), length-drop (byteOf p) t) in
+        sym (line-at c t (drop (byteOf p) t) p (sound-rest t p sound)
+        ∙ rw (le-ltb _ _ x, w, size, along-past p (lineOf (drop (byteOf p) t)) sound (line-plain (drop (byteOf p) t)) y))
 
 -- ---- lines before the first define line
 
@@ -188,6 +177,6 @@ line-less c t (b ∷ l) i q e h = go (eqb b 10) refl (λ u. line-less c t l (aft
 pub lines-less : (c : ℕ) (t : List ℕ) (i : TextLocation) {s : Passed} {q : TextLocation} → told s ≡ lineRest c t i → s ≡ To q → length (rest t q) < length (rest t i)
 lines-less c t i {s} {q} g n = line-less c t (rest t i) i q refl (sym (ap told n) ∙ g)
 
-pub ruleset line·laws = (line-past, line-column, line-line, line-to, line-out)
+pub ruleset line·laws = (line-none, line-to, line-out)
 
 pub ruleset lines·laws = (lines-found, lines-none, lines-on, lines-end, lines-less)

@@ -17,6 +17,15 @@ within lo hi b = pick (leb lo b) (leb b hi) false
 unfoldable pub hexOf : ℕ → ℕ
 hexOf b = pick (within 48 57 b) (b - 48) (pick (within 65 70 b) (b - 65 + 10) (pick (within 97 102 b) (b - 97 + 10) 16))
 
+-- the values of n bytes from k on
+abbrev pub valuesFrom : ℕ → ℕ → List ℕ
+valuesFrom k zero = []
+valuesFrom k (suc n) = hexOf k ∷ valuesFrom (suc k) n
+
+-- the values of all bytes
+unfoldable pub hexTable : List ℕ
+hexTable = valuesFrom 0 256
+
 unfoldable pub hexv : ℕ → Option ℕ
 hexv b = pick (ltb (hexOf b) 16) (some (hexOf b)) none
 

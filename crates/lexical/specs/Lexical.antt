@@ -46,6 +46,11 @@ isBlank b = pick (eqb b 32) true (eqb b 9)
 unfoldable pub isLoose : ℕ → Bool
 isLoose b = pick (isBlank b) true (eqb b 10)
 
+-- the class of a gap: blanks, or loose space
+abbrev pub spaceOf : Bool → ℕ → Bool
+spaceOf true = isLoose
+spaceOf false = isBlank
+
 abbrev pub when : Bool → Option (Unit {0})
 when t = pick t (some tt) none
 

@@ -4,17 +4,20 @@ ghost use mathlib.Core.Path.{_≡_};
 ghost use Prim.Native.Nat.{_+_};
 ghost use lib.ListN.{length, drop};
 ghost use Rattle.text.specs.Reader.{ok};
-ghost use Rattle.lexical.specs.Lexical.{isBlank, isLoose, number, told, onto, toldByte, anyByte, skip, gap, fixed, lineEnd, lineOf, lineRest, leading};
+ghost use Rattle.lexical.specs.Lexical.{isBlank, isLoose, spaceOf, number, told, onto, toldByte, anyByte, skip, gap, fixed, lineEnd, lineOf, lineRest, leading};
 ghost use Rattle.lexical.specs.Token.{Tokened};
-ghost use Rattle.lexical.specs.Hex.{hexOf, isMark, hexDigit, hexStart, hexByte};
-use text::Byte;
-use text::Column;
-use text::Line;
+ghost use Rattle.lexical.specs.Hex.{hexOf, hexTable, isMark, hexDigit, hexStart, hexByte};
+use hex_table::HEX;
 use text::Peeked;
 use text::TextLocation;
 use text::Took;
+use text::along;
+use text::has_left;
+use text::past_line;
 use text::peek;
 use text::take;
+
+mod hex_table;
 
 // The part of the file in which a rule is broken.
 pub enum XbmPart {
@@ -82,15 +85,25 @@ pub fn is_loose(b: u8) -> bool
     b == b'\n'
 }
 
-// Blanks or none.
-fn skip_blanks(text: &[u8], place: TextLocation) -> TextLocation
-    ensures { λ r. ⌜ ok tt r ≡ skip isBlank (now (text .entry)) place ⌝ }
+// Blanks, or loose space.
+fn is_space(b: u8, loose: bool) -> bool
+    ensures { λ r. ⌜ r ≡ spaceOf loose b ⌝ }
+{
+    if loose {
+        return is_loose(b);
+    }
+    is_blank(b)
+}
+
+// Blanks or loose space, also none.
+fn skip_space(text: &[u8], place: TextLocation, loose: bool) -> TextLocation
+    ensures { λ r. ⌜ ok tt r ≡ skip (spaceOf loose) (now (text .entry)) place ⌝ }
 {
     let mut at = place;
     loop {
         match take(text, at) {
             Took::Next(b, next) => {
-                if is_blank(b) {
+                if is_space(b, loose) {
                     at = next;
                 } else {
                     return at;
@@ -105,19 +118,7 @@ fn skip_blanks(text: &[u8], place: TextLocation) -> TextLocation
 pub fn read_optional_whitespace(text: &[u8], place: TextLocation) -> TextLocation
     ensures { λ r. ⌜ ok tt r ≡ skip isLoose (now (text .entry)) place ⌝ }
 {
-    let mut at = place;
-    loop {
-        match take(text, at) {
-            Took::Next(b, next) => {
-                if is_loose(b) {
-                    at = next;
-                } else {
-                    return at;
-                }
-            }
-            Took::End => return at,
-        }
-    }
+    skip_space(text, place, true)
 }
 
 // Read a single byte.
@@ -137,7 +138,7 @@ pub fn read_whitespace_gap(text: &[u8], place: TextLocation, part: XbmPart) -> P
     match take(text, place) {
         Took::Next(b, next) => {
             if is_blank(b) {
-                Passed::To(skip_blanks(text, next))
+                Passed::To(skip_space(text, next, false))
             } else {
                 Passed::Refused(part, next)
             }
@@ -150,7 +151,7 @@ pub fn read_whitespace_gap(text: &[u8], place: TextLocation, part: XbmPart) -> P
 pub fn read_to_newline(text: &[u8], place: TextLocation, part: XbmPart) -> Passed
     ensures { λ r. ⌜ told r ≡ lineEnd (number part) (now (text .entry)) place ⌝ }
 {
-    let at = skip_blanks(text, place);
+    let at = skip_space(text, place, false);
     match take(text, at) {
         Took::Next(b, next) => {
             if b == b'\n' {
@@ -223,35 +224,16 @@ fn line_end(text: &[u8], from: usize) -> usize
 fn skip_line(text: &[u8], place: TextLocation, part: XbmPart) -> Passed
     ensures { λ r. ⌜ told r ≡ lineRest (number part) (now (text .entry)) place ⌝ }
 {
-    let at = place.byte.0;
-    let line = place.line.0;
-    let column = place.column.0;
-    if at >= text.len() as u64 {
-        return Passed::Refused(part, place);
+    if has_left(text, place, 1) {
+        let from = place.byte.0 as usize;
+        let end = line_end(text, from);
+        let size = (end - from) as u64;
+        if end < text.len() {
+            return Passed::To(past_line(place, size));
+        }
+        return Passed::Refused(part, along(place, size));
     }
-    if at < column {
-        return Passed::Refused(part, place);
-    }
-    if at + 1 < line {
-        return Passed::Refused(part, place);
-    }
-    let i = at as usize;
-    let end = line_end(text, i);
-    if end < text.len() {
-        return Passed::To(TextLocation {
-            byte: Byte(end as u64 + 1),
-            line: Line(line + 1),
-            column: Column(0),
-        });
-    }
-    Passed::Refused(
-        part,
-        TextLocation {
-            byte: Byte(end as u64),
-            line: Line(line),
-            column: Column(column + (end - i) as u64),
-        },
-    )
+    Passed::Refused(part, place)
 }
 
 // Skip whole lines, up to the first that begins with `#`.
@@ -329,6 +311,13 @@ pub fn hex_value(b: u8) -> u8
         return b - b'a' + 10;
     }
     16
+}
+
+// The same of all bytes. Call it once, above a loop, and lend it down.
+pub fn hex_values() -> [u8; 256]
+    ensures { λ r. ⌜ r ≡ hexTable ⌝ }
+{
+    HEX
 }
 
 // Read a single hex digit, either upper or lower case.

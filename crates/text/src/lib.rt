@@ -1,6 +1,8 @@
 // A place in a text, and taking or looking at one byte there: the core of the text reader, by value.
 ghost use mathlib.Core.Path.{_≡_};
-ghost use Rattle.text.specs.Place.{tookAt, peekedAt, start};
+ghost use Prim.Native.Nat.{_<_, _^_};
+ghost use Rattle.text.specs.Place.{byteOf, lineStart, start, nowhere, isSound, isForeign, hasLeft, alongLine, pastLine, tookAt, peekedAt};
+use std::num::wrapping_add_u64;
 
 // How many bytes were taken.
 #[repr(C)]
@@ -34,15 +36,83 @@ pub enum Peeked {
     Nothing,
 }
 
+// A place at the start of a line.
+fn at_line_start(byte: u64, line: u64) -> TextLocation
+    ensures { λ r. ⌜ r ≡ lineStart byte line ⌝ }
+{
+    TextLocation {
+        byte: Byte(byte),
+        line: Line(line),
+        column: Column(0),
+    }
+}
+
 // The place where a text starts.
 pub fn beginning() -> TextLocation
     ensures { λ r. ⌜ r ≡ start ⌝ }
 {
-    TextLocation {
-        byte: Byte(0),
-        line: Line(1),
-        column: Column(0),
+    at_line_start(0, 1)
+}
+
+// What is told where there is no place to tell: zeros.
+pub fn no_place() -> TextLocation
+    ensures { λ r. ⌜ r ≡ nowhere ⌝ }
+{
+    at_line_start(0, 0)
+}
+
+// Whether its byte reaches the place's column and line.
+fn is_sound(place: TextLocation) -> bool
+    requires { ⌜ byteOf place < 2 ^ 63 ⌝ }
+    ensures { λ r. ⌜ r ≡ isSound place ⌝ }
+{
+    if place.byte.0 < place.column.0 {
+        return false;
     }
+    place.line.0 <= place.byte.0 + 1
+}
+
+// Whether the text has no such place: a byte past its end, or a column or a line that so few bytes do not reach.
+pub fn is_foreign_place(text: &[u8], place: TextLocation) -> bool
+    ensures { λ r. ⌜ r ≡ isForeign (now (text .entry)) place ⌝ }
+{
+    if (text.len() as u64) < place.byte.0 {
+        return true;
+    }
+    !is_sound(place)
+}
+
+// Whether the place is not foreign and n bytes or more stand from it on.
+pub fn has_left(text: &[u8], place: TextLocation, n: u64) -> bool
+    ensures { λ r. ⌜ r ≡ hasLeft (now (text .entry)) place n ⌝ }
+{
+    let size = text.len() as u64;
+    if size < n {
+        return false;
+    }
+    if size - n < place.byte.0 {
+        return false;
+    }
+    is_sound(place)
+}
+
+// The place n bytes on within a line. Past 2 ^ 64 bytes, which no text has, the sums wrap; so below.
+pub fn along(place: TextLocation, n: u64) -> TextLocation
+    ensures { λ r. ⌜ r ≡ alongLine place n ⌝ }
+{
+    TextLocation {
+        byte: Byte(wrapping_add_u64(place.byte.0, n)),
+        line: Line(place.line.0),
+        column: Column(wrapping_add_u64(place.column.0, n)),
+    }
+}
+
+// The place past n more bytes of a line and its newline.
+pub fn past_line(place: TextLocation, n: u64) -> TextLocation
+    ensures { λ r. ⌜ r ≡ pastLine place n ⌝ }
+{
+    let end = wrapping_add_u64(place.byte.0, n);
+    at_line_start(wrapping_add_u64(end, 1), wrapping_add_u64(place.line.0, 1))
 }
 
 // The next byte at a place, and the place after it. A foreign place is as the end.
@@ -50,37 +120,18 @@ pub fn take(text: &[u8], place: TextLocation) -> Took
     ensures { λ r. ⌜ r ≡ tookAt (now (text .entry)) place ⌝ }
 {
     let at = place.byte.0;
-    let line = place.line.0;
-    let column = place.column.0;
     if at >= text.len() as u64 {
         return Took::End;
     }
-    if at < column {
-        return Took::End;
+    if is_sound(place) {
+        let i = at as usize;
+        let b = text[i];
+        if b == b'\n' {
+            return Took::Next(b, past_line(place, 0));
+        }
+        return Took::Next(b, along(place, 1));
     }
-    if at + 1 < line {
-        return Took::End;
-    }
-    let i = at as usize;
-    let b = text[i];
-    if b == 10 {
-        return Took::Next(
-            b,
-            TextLocation {
-                byte: Byte(at + 1),
-                line: Line(line + 1),
-                column: Column(0),
-            },
-        );
-    }
-    Took::Next(
-        b,
-        TextLocation {
-            byte: Byte(at + 1),
-            line: Line(line),
-            column: Column(column + 1),
-        },
-    )
+    Took::End
 }
 
 // The same, with nothing taken.

@@ -6,7 +6,7 @@ use mathlib.Core.List.{List, [], _∷_}
 use lib.ListN.{length, take, length-take}
 use lib.IntN.{ℤ, pos}
 use Rattle.text.specs.declared.TextLocation.{TextLocation}
-use Rattle.text.specs.Place.{start}
+use Rattle.text.specs.Place.{start, nowhere}
 use Rattle.text.specs.Outcome.{Outcome, Ended, shown}
 use Rattle.header.specs.declared.XbmDecodeError.{XbmDecodeError}
 use Rattle.header.specs.declared.Refusal.{Refusal}
@@ -24,7 +24,7 @@ use Rattle.image.specs.declared.ImageRead.the-variants.{Read, Refused, Dimensio
 use Rattle.image.specs.declared.ImageAnswer.{ImageAnswer}
 use Rattle.image.specs.Reading.{Reading, toldImage, Imaged}
 use Rattle.xbm_c.specs.declared.Summary.{Summary}
-use Rattle.xbm_c.specs.Report.{nowhere, spotOf, refusal, ofRefusal, ofHeader, ofImage, headerTold, imageTold, flagOf, coordinates, reportOf, Tells, HeaderCall, ImageCall}
+use Rattle.xbm_c.specs.Report.{spotOf, refusal, ofRefusal, ofHeader, ofImage, headerTold, imageTold, flagOf, coordinates, reportOf, Tells, HeaderCall, ImageCall}
 
 -- ---- a refusal
 

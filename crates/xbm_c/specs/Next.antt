@@ -3,10 +3,10 @@ use Prim.Native.Nat.{ℕ}
 use mathlib.Core.List.{List, [], _∷_}
 use mathlib.Core.Option.{Option, none, some}
 use Rattle.text.specs.declared.TextLocation.{TextLocation}
+use Rattle.text.specs.Place.{nowhere}
 use Rattle.text.specs.Outcome.{Outcome, accepted, refused, unplaced}
 use Rattle.decoder.specs.declared.XbmStreamDecoder.{XbmStreamDecoder}
 use Rattle.decoder.specs.Step.{stepOf}
-use Rattle.xbm_c.specs.Report.{nowhere}
 
 -- 0 where the call is accepted, else the number of the refusal
 abbrev pub nextNumber : Outcome (Option ℕ) → ℕ

@@ -6,7 +6,7 @@ use mathlib.Core.List.{List, [], _∷_}
 use lib.ListN.{length}
 use lib.IntN.{ℤ, pos}
 use Rattle.text.specs.declared.TextLocation.{TextLocation}
-use Rattle.text.specs.Place.{start}
+use Rattle.text.specs.Place.{start, nowhere}
 use Rattle.text.specs.Outcome.{Outcome, accepted, refused, unplaced, Ended, ending-at, shown}
 use Rattle.lexical.specs.Token.{overlay}
 use Rattle.header.specs.declared.Refusal.{Refusal}
@@ -17,10 +17,6 @@ use Rattle.header.specs.Header.{Head, header}
 use Rattle.header.specs.Answer.{stored, nameLength}
 use Rattle.image.specs.Reading.{reading}
 use Rattle.xbm_c.specs.declared.Summary.{Summary}
-
--- stands where no place is told
-abbrev pub nowhere : TextLocation
-nowhere = record { byte = record { 0 = 0 }; line = record { 0 = 0 }; column = record { 0 = 0 } }
 
 abbrev pub spotOf : Option (ℤ × ℤ) → Hotspot
 spotOf none = Absent

@@ -5,7 +5,7 @@ ghost use Rattle.decoder.specs.Step.{toldNext};
 ghost use Rattle.header.specs.Answer.{toldHeader};
 ghost use Rattle.image.specs.Reading.{toldImage};
 ghost use Rattle.xbm_c.specs.Next.{reported, nextNumber, nextReport, resultAt, decoderAt, reportAt};
-ghost use Rattle.xbm_c.specs.Report.{nowhere, refusal, ofRefusal, ofHeader, ofImage, flagOf, coordinates, reportOf, HeaderCall, ImageCall};
+ghost use Rattle.xbm_c.specs.Report.{refusal, ofRefusal, ofHeader, ofImage, flagOf, coordinates, reportOf, HeaderCall, ImageCall};
 use decoder::NextByte;
 use decoder::XbmStreamDecoder;
 use decoder::next_byte;
@@ -19,10 +19,8 @@ use image::ImageAnswer;
 use image::ImageRead;
 use image::read_image;
 use lexical::part_number;
-use text::Byte;
-use text::Column;
-use text::Line;
 use text::TextLocation;
+use text::no_place;
 
 // What a call tells: zeros and no hotspot where it tells nothing; `name` is the name's length.
 pub struct Summary {
@@ -32,16 +30,6 @@ pub struct Summary {
     pub height: u32,
     pub name: usize,
     pub hotspot: Hotspot,
-}
-
-fn no_place() -> TextLocation
-    ensures { λ r. ⌜ r ≡ nowhere ⌝ }
-{
-    TextLocation {
-        byte: Byte(0),
-        line: Line(0),
-        column: Column(0),
-    }
 }
 
 fn refused(number: u32, place: TextLocation, name: usize) -> Summary

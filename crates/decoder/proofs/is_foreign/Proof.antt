@@ -16,27 +16,11 @@ data-size-requires c κs = search needs
 returns-3 : tie.Need-returns-3
 returns-3 c = search (foreign·laws, needs)
 
+is-foreign-place-requires : tie.Need-is-foreign-place-requires
+is-foreign-place-requires c κs = search needs
+
 returns-4 : tie.Need-returns-4
 returns-4 c = search (foreign·laws, needs)
 
-returns-5 : tie.Need-returns-5
-returns-5 c = search (foreign·laws, needs)
-
-add-result : tie.Need-add-result
-add-result c = search needs
-
-returns-6 : tie.Need-returns-6
-returns-6 c = search (foreign·laws, needs)
-
 pub is-foreign-spec : {M : Type 1} → statement M
-is-foreign-spec =
-    tie.close
-    (tie.spec
-    returns
-    returns-2
-    data-size-requires
-    returns-3
-    returns-4
-    returns-5
-    add-result
-    returns-6)
+is-foreign-spec = tie.close (tie.spec returns returns-2 data-size-requires returns-3 is-foreign-place-requires returns-4)

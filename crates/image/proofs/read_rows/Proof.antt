@@ -1,7 +1,5 @@
 -- The rows are read as the definition says: before each data byte the loop's state is as `Going` has it, and each way on is one of its laws.
-use Rattle.lexical.specs.Hex.{hexOf}
 use Rattle.decoder.specs.Step.{rowBytes}
-use Rattle.image.specs.Quick.{hexTable}
 use Rattle.image.specs.Rows.{count}
 use Rattle.image.proofs.Going.{Going, going·laws, room·laws}
 use Prim.Native.Nat.{_+_, _-_, _*_, _/_}
@@ -19,11 +17,13 @@ abbrev μ-loop : tie.MeasureT-loop
 div-rows : tie.Need-div-rows Inv-loop μ-loop
 div-rows c = search needs
 
+hex-values-requires : tie.Need-hex-values-requires Inv-loop μ-loop
+hex-values-requires c κs = search needs
+
 loop-holds : tie.Need-loop-holds Inv-loop μ-loop
 loop-holds c = search (going·laws, needs)
 
 next-data-requires : tie.Need-next-data-requires Inv-loop μ-loop
-unfolding hexTable hexOf
 next-data-requires c κs = search needs
 
 enum-known-v : tie.Need-enum-known-v Inv-loop μ-loop
@@ -114,6 +114,7 @@ read-rows-spec =
     Inv-loop
     μ-loop
     div-rows
+    hex-values-requires
     loop-holds
     next-data-requires
     enum-known-v

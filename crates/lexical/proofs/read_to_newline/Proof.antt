@@ -5,8 +5,8 @@ use Rattle.lexical.specs.Lexical.{lineEnd}
 use Rattle.lexical.proofs.read_to_newline.Statement.{statement}
 use Rattle.lexical.proofs.read_to_newline.Tie as tie
 
-skip-blanks-requires : tie.Need-skip-blanks-requires
-skip-blanks-requires c κs = search needs
+skip-space-requires : tie.Need-skip-space-requires
+skip-space-requires c κs = search needs
 
 take-requires : tie.Need-take-requires
 take-requires c κs = search needs
@@ -33,7 +33,7 @@ pub read-to-newline-spec : {M : Type 1} → statement M
 read-to-newline-spec =
     tie.close
     (tie.spec
-    skip-blanks-requires
+    skip-space-requires
     take-requires
     enum-known-b
     enum-told

@@ -14,8 +14,8 @@ enum-known-b c = search needs
 is-blank-requires : tie.Need-is-blank-requires
 is-blank-requires c κs = search needs
 
-skip-blanks-requires : tie.Need-skip-blanks-requires
-skip-blanks-requires c κs = search needs
+skip-space-requires : tie.Need-skip-space-requires
+skip-space-requires c κs = search needs
 
 enum-told : tie.Need-enum-told
 enum-told c = search needs
@@ -39,7 +39,7 @@ read-whitespace-gap-spec =
     take-requires
     enum-known-b
     is-blank-requires
-    skip-blanks-requires
+    skip-space-requires
     enum-told
     returns
     returns-2

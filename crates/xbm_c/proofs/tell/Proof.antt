@@ -11,7 +11,7 @@ use Rattle.decoder.specs.declared.NextByte.{NextByte}
 use Rattle.decoder.specs.declared.NextByte.the-variants.{Byte, Done, Refused, Foreign}
 use Rattle.decoder.specs.Step.{toldNext}
 use Rattle.xbm_c.specs.Next.{reported, nextNumber, nextReport}
-use Rattle.xbm_c.specs.Report.{nowhere}
+use Rattle.text.specs.Place.{nowhere}
 use Rattle.xbm_c.proofs.tell.Statement.{statement}
 use Rattle.xbm_c.proofs.tell.Tie as tie
 

@@ -3,16 +3,16 @@ use borrow.Author.Needs.{needs}
 use mathlib.Core.Path.{_≡_, refl}
 use lib.ListN.{length}
 use Rattle.text.specs.Place.{rest}
-use Rattle.lexical.specs.Lexical.{skip, isBlank}
+use Rattle.lexical.specs.Lexical.{skip, spaceOf}
 use Rattle.lexical.proofs.Laws.{skip·laws}
-use Rattle.lexical.proofs.skip_blanks.Statement.{statement}
-use Rattle.lexical.proofs.skip_blanks.Tie as tie
+use Rattle.lexical.proofs.skip_space.Statement.{statement}
+use Rattle.lexical.proofs.skip_space.Tie as tie
 
 abbrev Inv-loop : tie.InvT-loop
-Inv-loop text at₀ at = skip isBlank text at ≡ skip isBlank text at₀
+Inv-loop text loose at₀ at = skip (spaceOf loose) text at ≡ skip (spaceOf loose) text at₀
 
 abbrev μ-loop : tie.MeasureT-loop
-μ-loop text at₀ at = length (rest text at)
+μ-loop text loose at₀ at = length (rest text at)
 
 loop-holds : tie.Need-loop-holds Inv-loop μ-loop
 loop-holds c = refl
@@ -23,8 +23,8 @@ take-requires c κs = search needs
 enum-known-b : tie.Need-enum-known-b Inv-loop μ-loop
 enum-known-b c = search needs
 
-is-blank-requires : tie.Need-is-blank-requires Inv-loop μ-loop
-is-blank-requires c κs = search needs
+is-space-requires : tie.Need-is-space-requires Inv-loop μ-loop
+is-space-requires c κs = search needs
 
 loop-less : tie.Need-loop-less Inv-loop μ-loop
 loop-less c = search (skip·laws, needs)
@@ -41,8 +41,8 @@ enum-told c = search needs
 returns-2 : tie.Need-returns-2 Inv-loop μ-loop
 returns-2 c = search (skip·laws, needs)
 
-pub skip-blanks-spec : {M : Type 1} → statement M
-skip-blanks-spec =
+pub skip-space-spec : {M : Type 1} → statement M
+skip-space-spec =
     tie.close
     (tie.spec
     Inv-loop
@@ -50,7 +50,7 @@ skip-blanks-spec =
     loop-holds
     take-requires
     enum-known-b
-    is-blank-requires
+    is-space-requires
     loop-less
     loop-again
     returns

@@ -1,0 +1,17 @@
+-- `text::is_sound` meets its contract: each return is a law (`sound·laws`).
+use borrow.Author.Needs.{needs}
+use Rattle.text.proofs.Laws.{sound·laws}
+use Rattle.text.proofs.is_sound.Statement.{statement}
+use Rattle.text.proofs.is_sound.Tie as tie
+
+returns : tie.Need-returns
+returns c = search (sound·laws, needs)
+
+add-result : tie.Need-add-result
+add-result c = search needs
+
+returns-2 : tie.Need-returns-2
+returns-2 c = search (sound·laws, needs)
+
+pub is-sound-spec : {M : Type 1} → statement M
+is-sound-spec = tie.close (tie.spec returns add-result returns-2)
