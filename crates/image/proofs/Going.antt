@@ -95,6 +95,7 @@ pub record Going (w h : ℕ) (t : List ℕ) (i₀ : TextLocation) (lent p : List
   pub above : y ≤ min (length lent / w) h
   pub base : row ≡ y * w
   pub size : length p ≡ length lent
+  pub fits : length lent < 2 ^ 64
   pub long : length done ≡ y * rowBytes w + j
   pub within : length done ≤ count w h (length lent)
   pub cells : (c : ℕ) → getD p c 0 ≡ cell w done c (getD lent c 0)
@@ -103,9 +104,9 @@ pub record Going (w h : ℕ) (t : List ℕ) (i₀ : TextLocation) (lent p : List
   pub left : (items (count w h (length lent) - length done) f >>= λ l. after-rows w h (length lent) (values done ++ l)) t i ≡ whole w h (length lent) t i₀
 
 module _ (w h : ℕ) (t : List ℕ) (i₀ : TextLocation) (lent : List ℕ) where
-  pub going-start : (w ≡ 0 → ⊥) → (h ≡ 0 → ⊥) → Going w h t i₀ lent lent i₀ true 0 0 0
+  pub going-start : (w ≡ 0 → ⊥) → (h ≡ 0 → ⊥) → length lent < 2 ^ 64 → Going w h t i₀ lent lent i₀ true 0 0 0
   unfolding whole cell
-  going-start a b = record {
+  going-start a b k = record {
     done = [];
     j = 0;
     even = refl;
@@ -113,6 +114,7 @@ module _ (w h : ℕ) (t : List ℕ) (i₀ : TextLocation) (lent : List ℕ) wher
     above = omega arith;
     base = omega arith;
     size = refl;
+    fits = k;
     long = omega arith;
     within = omega arith;
     cells = λ c. refl;
@@ -129,11 +131,11 @@ module _ (w h : ℕ) (t : List ℕ) (i₀ : TextLocation) (lent : List ℕ) wher
     room : y < length lent / w → row + w ≤ length p
     room l = omega (arith, mul-le-mul-right w l, suc-mul y w, div-mul-le-self (length lent) w, g .base, g .size)
 
-    pub start-fits : y < length lent / w → length lent < 2 ^ 64 → Fits w64 (row + x)
-    start-fits l k = record { fits = omega (arith, room l, g .size, g .inside) }
+    pub start-fits : y < length lent / w → Fits w64 (row + x)
+    start-fits l = record { fits = omega (arith, room l, g .size, g .fits, g .inside) }
 
-    pub next-fits : y < length lent / w → length lent < 2 ^ 64 → Fits w64 (row + w)
-    next-fits l k = record { fits = omega (arith, room l, g .size) }
+    pub next-fits : y < length lent / w → Fits w64 (row + w)
+    next-fits l = record { fits = omega (arith, room l, g .size, g .fits) }
 
     pub eight-inside : y < length lent / w → 8 < w - x → row + x + 8 ≤ length p
     eight-inside l k = omega (arith, room l)
@@ -187,6 +189,7 @@ module _ (w h : ℕ) (t : List ℕ) (i₀ : TextLocation) (lent : List ℕ) wher
             above = hy′;
             base = hb;
             size = length-dab (row + x) v n p ∙ g .size;
+            fits = g .fits;
             long = d ∙ hl;
             within = omega (arith, less);
             cells =
