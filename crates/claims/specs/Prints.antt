@@ -12,6 +12,7 @@ use lib.IntN.{ℤ}
 use borrow.Author.Tests.{ltb-false}
 use Rattle.text.specs.declared.TextLocation.{TextLocation}
 use Rattle.text.specs.Place.{pick, byteOf, start}
+use Rattle.text.specs.PlaceLaws.{start-sound}
 use Rattle.text.specs.Rest.{Reach, Sound, reach-inside, walk-sound}
 use Rattle.text.specs.Reader.{Result, ok, stop, bad, then, _>>=_, Local, bind-local}
 use Rattle.text.specs.Leaf.{give, give-local}
@@ -54,7 +55,7 @@ module _ (text name pixels : List ℕ) (short : length text ≤ 65536) where
 
   place-small : (p : TextLocation) → Reach text start p → (p .byte .0 < 2 ^ 64) × (p .line .0 < 2 ^ 64) × (p .column .0 < 2 ^ 64)
   place-small p w =
-      let s : Sound p = walk-sound w (record { column = omega arith; line = omega arith }) in
+      let s : Sound p = walk-sound w start-sound in
       let b : byteOf p ≤ length text = reach-inside text start w (omega arith) in
       (omega arith, omega (arith, s .line), omega (arith, s .column))
 

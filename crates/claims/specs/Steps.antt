@@ -7,18 +7,18 @@ use mathlib.Core.Option.{Option, none, some}
 use mathlib.Core.Bool.{Bool, true, false}
 use mathlib.Core.List.{List, [], _∷_, _++_}
 use lib.ListN.{length, length-append}
-use lib.Dec.{eqb, ltb}
-use borrow.Author.Tests.{eq-eqb, ne-eqb, eqb-false, lt-ltb, le-ltb, ltb-false}
+use lib.Dec.{eqb}
+use borrow.Author.Tests.{eq-eqb, ne-eqb, lt-ltb, le-ltb}
 use Rattle.text.specs.declared.TextLocation.{TextLocation}
-use Rattle.text.specs.Place.{pick, byteOf, start, past}
+use Rattle.text.specs.Place.{byteOf, start, past}
+use Rattle.text.specs.PlaceLaws.{start-sound}
 use Rattle.text.specs.Rest.{Walk, Reach, reach-inside, walk-sound, Sound}
-use Rattle.text.specs.Reader.{Result, ok, stop, bad, endOf, Reader, then, _>>=_, _>>_, Local}
+use Rattle.text.specs.Reader.{Result, ok, stop, bad, then, _>>=_}
 use Rattle.text.specs.Leaf.{give}
-use Rattle.text.specs.Outcome.{Outcome, outcome}
-use Rattle.header.specs.Header.{Head, header, header-local}
+use Rattle.text.specs.Outcome.{outcome}
 use Rattle.decoder.specs.Data.{item, items, trailer, items-local}
 use Rattle.decoder.specs.declared.XbmStreamDecoder.{XbmStreamDecoder}
-use Rattle.decoder.specs.Step.{bytesOf, foreign, more, called, spent, placedAt, stepOf}
+use Rattle.decoder.specs.Step.{bytesOf, foreign, called, placedAt, stepOf}
 use Rattle.grammar.specs.Lang.{_·_}
 use Rattle.grammar.specs.Grammar.{Mask, Define, Side, Header, Data}
 use Rattle.grammar.specs.Bind.{bind-case, bind-ok, past-append, past-byte, move}
@@ -120,7 +120,7 @@ begun-native : (lim : ℕ) (t u v : List ℕ) (m : Mask) → t ≡ u ++ v → He
 begun-native lim t u v m q k =
     let (a, b) = sided lim m u k in
     let w : Walk (u ++ v) start (past start u) = walk-past u v start in
-    let s : Sound (past start u) = walk-sound w (record { column = omega arith; line = omega arith }) in
+    let s : Sound (past start u) = walk-sound w start-sound in
     record { wide = λ e. omega arith; high = λ e. omega arith; position = omega arith; inside = omega (arith, past-byte start u, ap length q, length-append u v); place = s }
 
 -- a text that begins with a header and k data bytes, l

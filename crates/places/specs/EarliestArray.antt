@@ -11,7 +11,7 @@ use lib.Dec.{eqb}
 use borrow.Author.Tests.{ne-eqb}
 use Rattle.text.specs.declared.TextLocation.{TextLocation}
 use Rattle.text.specs.Place.{start, after, rest as restAt}
-use Rattle.text.specs.Reader.{ok, stop, _>>=_, _>>_}
+use Rattle.text.specs.Reader.{ok, stop, _>>=_}
 use Rattle.text.specs.Leaf.{give, one, first as firstOf, fork, forkOf, choose}
 use Rattle.text.specs.Outcome.{refused}
 use Rattle.lexical.specs.Lexical.{when, byte, fixed}

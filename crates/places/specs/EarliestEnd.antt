@@ -11,7 +11,7 @@ use borrow.Author.Tests.{eqb-true, le-ltb}
 use Rattle.text.specs.declared.TextLocation.{TextLocation}
 use Rattle.text.specs.Place.{byteOf, rest, start}
 use Rattle.text.specs.Rest.{Reach, walk-ahead, reach-inside, rest-room}
-use Rattle.text.specs.Reader.{ok, stop, _>>=_, _>>_, Same, same-take}
+use Rattle.text.specs.Reader.{ok, stop, _>>=_, Same, same-take}
 use Rattle.text.specs.Leaf.{give}
 use Rattle.text.specs.Outcome.{refused}
 use Rattle.header.specs.Header.{Head, header, header-local}

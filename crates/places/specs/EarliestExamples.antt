@@ -1,6 +1,6 @@
 -- Texts for each way of the claim on the earliest place: a wrong byte, an end, a token too long, a symbol refused too late, no room. So none is empty.
 use mathlib.Core.Path.{_≡_, refl, sym, ap}
-use Prim.Native.Nat.{ℕ, suc, _+_, _<_}
+use Prim.Native.Nat.{ℕ, suc, _<_}
 use native.Mathlib.Omega.{arith}
 use mathlib.Core.List.{List, [], _∷_, _++_, append-nil}
 use lib.ListN.{length, take, replicate, length-append}

@@ -1,7 +1,7 @@
 -- What the readers say of saving a text, in the words of the claim: from the text's start, and after what stands before a line.
 use mathlib.Core.Path.{_≡_, refl, sym, ap, _∙_}
 use mathlib.Core.Logic.{_↔_}
-use Prim.Native.Nat.{ℕ, zero, suc, _+_, _≤_}
+use Prim.Native.Nat.{ℕ, zero, suc, _≤_}
 use native.Mathlib.Omega.{arith}
 use native.Mathlib.Nat.{le-of-suc-le-suc, not-suc-le-zero}
 use mathlib.Core.List.{List, [], _∷_, _++_}
@@ -9,6 +9,7 @@ use lib.ListN.{length, take, drop}
 use lib.Seq.{take-all}
 use Rattle.text.specs.declared.TextLocation.{TextLocation}
 use Rattle.text.specs.Place.{byteOf, start}
+use Rattle.text.specs.PlaceLaws.{start-sound}
 use Rattle.text.specs.Rest.{reach-inside}
 use Rattle.text.specs.Reader.{Result, ok, stop, bad, Reader, _>>=_, Same}
 use Rattle.text.specs.Leaf.{give}
@@ -36,7 +37,7 @@ same-split (suc n) (x ∷ t) (y ∷ u) h s =
     rw z (ap (λ (l : List ℕ). x ∷ l) (same-split n t u (le-of-suc-le-suc h) (λ j k. s (suc j) (omega arith))))
 
 pub good-start : (t : List ℕ) → Good t start
-good-start t = record { sound = record { column = omega arith; line = omega arith }; inside = omega arith }
+good-start t = record { sound = start-sound; inside = omega arith }
 
 -- p refuses at i; a text x of the kind L keeps the bytes; and where p refuses so, no text is of that kind
 pub savable : {A : Type 0} {p : Reader A} (L : Lang) (t : List ℕ) (i : TextLocation) (c : ℕ) (e : TextLocation) (n : ℕ) → byteOf e ≤ length t → byteOf i ≤ n → Left p t i c e n → (x : List ℕ) → Same t x n → L x

@@ -1,13 +1,13 @@
 -- The earliest place in a define line: its token is too long, or the bytes can be saved as elsewhere. For any line of a head, a token and an end.
 use mathlib.Core.Path.{_≡_, refl, sym, ap, _∙_}
-use Prim.Native.Nat.{ℕ, suc, _+_, _≤_, _<_}
+use Prim.Native.Nat.{ℕ, suc, _≤_, _<_}
 use native.Mathlib.Omega.{arith}
 use mathlib.Core.List.{List, [], _∷_, _++_, append-assoc}
 use lib.ListN.{length, take, drop, length-append}
 use Rattle.text.specs.declared.TextLocation.{TextLocation}
 use Rattle.text.specs.Place.{byteOf, rest, start, past}
 use Rattle.text.specs.Rest.{walk-ahead, reach-inside}
-use Rattle.text.specs.Reader.{Result, ok, stop, bad, then, Reader, _>>=_, _>>_, Same, Local}
+use Rattle.text.specs.Reader.{Result, ok, stop, bad, then, Reader, _>>=_, Same, Local}
 use Rattle.text.specs.Leaf.{give}
 use Rattle.lexical.specs.Lexical.{isLoose, lineEnd}
 use Rattle.lexical.specs.Token.{token, token-local}

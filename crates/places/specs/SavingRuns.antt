@@ -9,8 +9,9 @@ use mathlib.Core.List.{List, [], _∷_, _++_, append-assoc, append-nil}
 use lib.ListN.{length, take, drop, length-append}
 use lib.Seq.{length-take-le}
 use lib.Dec.{eqb, ltb}
-use borrow.Author.Tests.{lt-ltb, le-ltb, not-true, le-leb, ltb-true, ltb-false}
+use borrow.Author.Tests.{lt-ltb, le-ltb, not-true, ltb-true, ltb-false}
 use Rattle.text.specs.declared.TextLocation.{TextLocation}
+use Rattle.text.specs.PlaceLaws.{sound-rest}
 use Rattle.text.specs.Place.{pick, byteOf, rest, after, past}
 use Rattle.text.specs.Rest.{Reach, reach-inside, rest-room}
 use Rattle.text.specs.Reader.{Result, ok, stop, bad, endOf, Same, Placed, same-take, cut-end}
@@ -119,8 +120,8 @@ more-drop (suc n) [] w h = absurd (not-suc-le-zero h)
 more-drop (suc n) (x ∷ t) w h = more-drop n t w (le-of-suc-le-suc h)
 
 more-rest : (t : List ℕ) (i : TextLocation) (w : List ℕ) → Good t i → rest (t ++ w) i ≡ rest t i ++ w
-unfolding rest
-more-rest t i w g = rw (le-leb (i .column .0) (i .byte .0) (g .sound .column), le-leb (i .line .0) (i .byte .0 + 1) (g .sound .line)) (more-drop (byteOf i) t w (g .inside))
+more-rest t i w g =
+    sound-rest (t ++ w) i (g .sound) ∙ more-drop (byteOf i) t w (g .inside) ∙ ap (λ (l : List ℕ). l ++ w) (sym (sound-rest t i (g .sound)))
 
 module _ (c d : ℕ) (e : TextLocation) where
   abbrev scanned : Bool → List ℕ → TextLocation → Result (Unit {0})

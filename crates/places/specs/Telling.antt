@@ -7,10 +7,10 @@ use native.Mathlib.Nat.{le-of-suc-le-suc, not-suc-le-zero}
 use mathlib.Core.List.{List, [], _∷_, _++_}
 use lib.ListN.{length, take, drop, getElem?, take-append-drop, length-append, length-drop}
 use lib.Seq.{length-take-le, take-all}
-use borrow.Author.Tests.{le-leb}
 use Rattle.text.specs.declared.TextLocation.{TextLocation}
 use Rattle.text.specs.Place.{byteOf, rest, start, past}
-use Rattle.text.specs.Rest.{Reach, reach-inside, walk-unique, walk-sound, Sound}
+use Rattle.text.specs.PlaceLaws.{sound-rest, start-sound}
+use Rattle.text.specs.Rest.{Reach, reach-inside, walk-unique, walk-sound}
 use Rattle.text.specs.Reader.{Result, ok, stop, bad, endOf, Same, cut-end}
 use Rattle.text.specs.Outcome.{Outcome, refused, outcome}
 use Rattle.header.specs.Header.{Head}
@@ -90,10 +90,7 @@ module _ (t name pixels : List ℕ) (c : ℕ) (p : TextLocation) (a : reading t 
       go e = rw e (Counts.counted (take (byteOf p) t))
 
   all-of : rest t p ≡ [] → byteOf p ≡ length t
-  unfolding rest
-  all-of e =
-      let s : Sound p = walk-sound reached (record { column = omega arith; line = omega arith }) in
-      omega (arith, inside, length-drop (byteOf p) t, ap length (rw (le-leb (p .column .0) (p .byte .0) (s .column), le-leb (p .line .0) (p .byte .0 + 1) (s .line)) at e))
+  all-of e = omega (arith, inside, length-drop (byteOf p) t, ap length (sym (sound-rest t p (walk-sound reached start-sound)) ∙ e))
 
   -- with the next byte it is settled
   settled : byteOf p < length t → Settled t name pixels (byteOf p + 1) c p

@@ -10,9 +10,10 @@ use mathlib.Core.List.{List, [], _++_, append-nil}
 use lib.ListN.{length, take, drop, take-append-drop, length-drop}
 use lib.Seq.{length-take-le}
 use lib.Dec.{eqb}
-use borrow.Author.Tests.{le-leb, ne-eqb}
+use borrow.Author.Tests.{ne-eqb}
 use Rattle.text.specs.declared.TextLocation.{TextLocation}
 use Rattle.text.specs.Place.{byteOf, rest, past}
+use Rattle.text.specs.PlaceLaws.{sound-rest}
 use Rattle.text.specs.Rest.{Reach, reach-inside, walk-ahead, walk-unique}
 use Rattle.text.specs.Reader.{Result, ok, stop, bad, Reader}
 use Rattle.text.specs.Outcome.{Outcome, accepted, refused, outcome}
@@ -50,8 +51,7 @@ module _ (t : List ℕ) (d : XbmStreamDecoder) (h : Foreign t d → ⊥) where
 
   -- what remains there
   left : rest t (d .location) ≡ ahead t d
-  unfolding rest
-  left = rw (le-leb (d .location .column .0) (d .location .byte .0) (sound .place .column), le-leb (d .location .line .0) (d .location .byte .0 + 1) (sound .place .line))
+  left = sound-rest t (d .location) (sound .place)
 
   abbrev here : TextLocation
   here = d .location
