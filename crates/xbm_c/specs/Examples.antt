@@ -1,4 +1,4 @@
--- Worked examples, computed from the definitions: the rows of one table, by one claim. The text is mask M, or a cut of it.
+-- Worked examples of `xbm_next_byte`, computed from the definitions: the rows of one table, by one claim. The text is mask M, or a cut of it.
 use Prim.Native.Nat.{ℕ}
 use mathlib.Core.Path.{_≡_, refl}
 use mathlib.Core.List.{List, [], _∷_, map}

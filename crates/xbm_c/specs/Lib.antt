@@ -2,3 +2,4 @@
 pub mod Report
 pub mod Next
 pub mod Examples
+pub mod Calls
