@@ -1,7 +1,18 @@
 /* Reading XBM masks held in memory: the header, one data byte at a time, or the whole picture.
  *
- * Every call takes any text and any buffers, of any length; a buffer of length 0 may be a null pointer.
- * Nothing outside the lent memory is read or written, and every call returns.
+ * Every call takes any text and any buffers, of any length. Nothing outside the lent memory is read or written,
+ * and every call returns.
+ *
+ * What the caller keeps while a call runs:
+ *   - `text` can be read for `text_len` bytes; `name` and `pixels` can be read and written for their lengths.
+ *     With a length of 0 the pointer is not used: it may be null.
+ *   - `report` has room for eight uint64_t, `hotspot` for two int32_t, and `decoder` points to one struct. None of them
+ *     may be null, and each is aligned as its type is (as every object of that type is).
+ *   - No two of the lent objects overlap: text, name, pixels, report, hotspot, decoder.
+ *   - No other thread writes any of them, or reads those that the call may write.
+ * Nothing else is presumed. The text may hold any bytes and need not end in 0, the decoder any numbers; what stands in `name`,
+ * `pixels`, `report` and `hotspot` before a call does not change what is told. Nothing is kept between calls and no memory
+ * is allocated, so calls may come in any order, and at the same time on different memory.
  *
  * A result of 0 means accepted. Any other result is the number of a refusal:
  *   1 width line, 2 height line, 3 hotspot x line, 4 hotspot y line, 5 array line,
