@@ -10,9 +10,9 @@
  *     may be null, and each is aligned as its type is (as every object of that type is).
  *   - No two of the lent objects overlap: text, name, pixels, report, hotspot, decoder.
  *   - No other thread writes any of them, or reads those that the call may write.
- * Nothing else is presumed. The text may hold any bytes and need not end in 0, the decoder any numbers; what stands in `name`,
- * `pixels`, `report` and `hotspot` before a call does not change what is told. Nothing is kept between calls and no memory
- * is allocated, so calls may come in any order, and at the same time on different memory.
+ * Nothing else is presumed. The text may hold any bytes and need not end in 0, the decoder any numbers; what stands in
+ * `name`, `pixels`, `report` and `hotspot` before a call does not change what is told. Nothing is kept between calls
+ * and no memory is allocated, so calls may come in any order, and at the same time on different memory.
  *
  * A result of 0 means accepted. Any other result is the number of a refusal:
  *   1 width line, 2 height line, 3 hotspot x line, 4 hotspot y line, 5 array line,
