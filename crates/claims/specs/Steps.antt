@@ -11,7 +11,7 @@ use lib.Dec.{eqb}
 use borrow.Author.Tests.{eq-eqb, ne-eqb, lt-ltb, le-ltb}
 use Rattle.text.specs.declared.TextLocation.{TextLocation}
 use Rattle.text.specs.Place.{byteOf, start, past}
-use Rattle.text.specs.PlaceLaws.{start-sound}
+use Rattle.text.specs.PlaceLaws.{start-sound, foreign-not}
 use Rattle.text.specs.Rest.{Walk, Reach, reach-inside, walk-sound, Sound}
 use Rattle.text.specs.Reader.{Result, ok, stop, bad, then, _>>=_}
 use Rattle.text.specs.Leaf.{give}
@@ -48,8 +48,7 @@ pub record Native (t : List ℕ) (d : XbmStreamDecoder) : Type 0 where
 pub not-foreign : (t : List ℕ) (d : XbmStreamDecoder) → Native t d → foreign t d ≡ false
 unfolding foreign
 not-foreign t d h =
-    rw (ne-eqb (d .width) 0 (h .wide), ne-eqb (d .height) 0 (h .high), le-ltb (sizeOf d) (d .«current_position») (h .position), le-ltb (length t) (byteOf (d .location)) (h .inside), le-ltb (byteOf (d .location)) (d .location .column .0) (h .place .column))
-    (le-ltb (byteOf (d .location) + 1) (d .location .line .0) (h .place .line))
+    rw (ne-eqb (d .width) 0 (h .wide), ne-eqb (d .height) 0 (h .high), le-ltb (sizeOf d) (d .«current_position») (h .position), foreign-not t (d .location) (h .inside) (h .place))
 
 -- ---- one call
 

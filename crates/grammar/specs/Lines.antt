@@ -133,13 +133,13 @@ module _ (lim : ℕ) (name : List ℕ) (n : ℕ) where
       fit-fixed 1 hashDefine (λ a. fit-gap 1 (begins-cat _ (begins-all blank solid solid-blank symbol-begins)) (λ a. fit-token (token-fits 1 lim) (search begin) symbol-solid (λ s hs.
       fit-want 1 (before endWidth s) (λ x. (name, rw (x .0 .0) (ends→before endWidth name))) (λ nm q.
       fit-gap 1 (begins-cat _ (begins-all blank solid solid-blank (λ w x. (side-token n w x .0, side-token n w x .2)))) (λ a. fit-token (token-fits 1 11) lineEnd-solid (λ w x. (side-token n w x .0, side-token n w x .1)) (λ w hw.
-      fit-done (lineEnd-fits 1) (λ a. fit-need 11 (number w) (λ x. (n, decimal→number w n (x .0 .0) (x .0 .2))) (λ v r.
+      fit-done (lineEnd-fits 1) (λ a. fit-need _ (number w) (λ x. (n, decimal→number w n (x .0 .0) (x .0 .2))) (λ v r.
       fit-need 21 (positive v) (λ x. (n, last′ w v x r)) (λ k o. fit-give (nm, k) (last s w nm v k (hs .0) (hs .1) q r o))))))))))
 
 -- ---- the values of tokens
 
 pub side-fits : (c d n : ℕ) (w : List ℕ) → Fits (side c d w) n (Side n w × Unit {0}) (Word []) Any
-side-fits c d n w = fit-need c (number w) (λ x. (n, known-side x)) (λ v r. fit-needed d (positive v) ((λ x. last′ 0 [] n w v x r), back v r))
+side-fits c d n w = fit-need _ (number w) (λ x. (n, known-side x)) (λ v r. fit-needed d (positive v) ((λ x. last′ 0 [] n w v x r), back v r))
   where
     known-side : Side n w × Unit {0} → number w ≡ some n
     known-side (x, y) = unfold Side in (decimal→number w n (x .0) (x .2))
@@ -155,7 +155,7 @@ coordinate-token z w (n, inr ((u, v, p, k, d), q, l)) =
     let e : w ≡ 45 ∷ v = p ∙ ap (λ (r : List ℕ). r ++ v) k in rw e ((refl, a), omega arith, omega arith)
 
 pub coordinate-fits : (d : ℕ) (z : ℤ) (w : List ℕ) → Fits (signed d w) z (Coordinate z w × Unit {0}) (Word []) Any
-coordinate-fits d z w = fit-needed d (integer w) ((λ x. coordinate→integer w z (x .0)), λ q. (integer→coordinate w z q, tt))
+coordinate-fits d z w = fit-needed _ (integer w) ((λ x. coordinate→integer w z (x .0)), λ q. (integer→coordinate w z q, tt))
 
 -- ---- the lines of the header
 

@@ -29,6 +29,12 @@ module _ (a : NextByte) (d : XbmStreamDecoder) {l : List ℕ} where
   report-foreign : {p : TextLocation} → a ≡ Foreign → p ≡ nowhere → l ≡ reported p 0 → l ≡ nextReport (toldNext a) d
   report-foreign m e k = rw m (k ∙ ap (λ (q : TextLocation). reported q 0) e)
 
+number-byte : {a : NextByte} {b : ℕ} → a ≡ Byte b → 0 ≡ nextNumber (toldNext a)
+number-byte m = rw m
+
+number-foreign : {a : NextByte} → a ≡ Foreign → 9 ≡ nextNumber (toldNext a)
+number-foreign m = rw m
+
 number-refused : {a : NextByte} {part : XbmPart} {p : TextLocation} {n : ℕ} → a ≡ Refused part p → n ≡ number part → n ≡ nextNumber (toldNext a)
 number-refused m k = rw m k
 
@@ -66,7 +72,7 @@ report-of-requires-4 : tie.Need-report-of-requires-4
 report-of-requires-4 c κs = search needs
 
 returns : tie.Need-returns
-returns c = search (report-byte, needs)
+returns c = search (report-byte, number-byte, needs)
 
 returns-2 : tie.Need-returns-2
 returns-2 c = search (report-done, needs)
@@ -75,7 +81,7 @@ returns-3 : tie.Need-returns-3
 returns-3 c = search (report-refused, number-refused, needs)
 
 returns-4 : tie.Need-returns-4
-returns-4 c = search (report-foreign, needs)
+returns-4 c = search (report-foreign, number-foreign, needs)
 
 pub tell-spec : {M : Type 1} → statement M
 tell-spec =
