@@ -22,11 +22,11 @@ use Rattle.claims.specs.Terms.{Begun, HeaderRefusal}
 use Rattle.claims.specs.Numbers.{placed-number, unplaced-number, header-numbered, whole-numbered}
 
 -- the header is read exactly where one stands at the text's start
-stood : (lim : ℕ) (t : List ℕ) (m : Mask) → Begun (Header lim m) t → (e : TextLocation) × (header lim t start ≡ ok (headOf m) e)
+pub stood : (lim : ℕ) (t : List ℕ) (m : Mask) → Begun (Header lim m) t → (e : TextLocation) × (header lim t start ≡ ok (headOf m) e)
 unfolding Any
 stood lim t m (u, v, q, h) = (past start u, header-exactly lim m t start (past start u) .1 (u, v, start-rest t ∙ q, h, tt, refl))
 
-stands : (lim : ℕ) (t : List ℕ) (h : Head) (e : TextLocation) → header lim t start ≡ ok h e → Begun (Header lim (made h [])) t
+pub stands : (lim : ℕ) (t : List ℕ) (h : Head) (e : TextLocation) → header lim t start ≡ ok h e → Begun (Header lim (made h [])) t
 stands lim t h e q = let (u, v, d, k, a, o) = header-exactly lim (made h []) t start e .0 q in (u, v, sym (start-rest t) ∙ d, k)
 
 module _ (t name pixels : List ℕ) where

@@ -29,7 +29,7 @@ use Rattle.grammar.specs.Devices.{made}
 use Rattle.claims.specs.Terms.{Lines}
 use Rattle.claims.specs.Numbers.{header-numbered, whole-numbered, placed-number, unplaced-number}
 use Rattle.claims.specs.Accepts.{accepts-exactly}
-use Rattle.claims.specs.Limits.{stands}
+use Rattle.claims.specs.Headless.{stands}
 use Rattle.claims.specs.Written.{Hots, ranged, Printable, lines}
 
 -- ---- of a header

@@ -31,7 +31,7 @@ use Rattle.grammar.specs.Exact.{start-rest}
 use Rattle.claims.specs.Terms.{Opening}
 use Rattle.refusals.specs.Terms.{Front, Sides, Third}
 use Rattle.refusals.specs.Stages.{assoc, at-both}
-use Rattle.refusals.specs.Lines.{next}
+use Rattle.refusals.specs.Lines.{weak, next}
 use Rattle.refusals.specs.HeaderRows.{first, first-fits, front-name, sketch}
 use Rattle.places.specs.Terms.{Named, Lead, width, height, x-hot, y-hot, Looked, long-symbol, no-width, long-token}
 use Rattle.places.specs.Sharp.{Looks, Never, saw, Sure, Sharp, sharp-weak, bind-looks, first-looks, whole-sharp, fixed-sharp, gap-sharp, lineEnd-sharp, leading-sharp, fork-sharp, need-sharp, give-sharp, array-sharp}
@@ -43,10 +43,6 @@ pub record After (K : Lang) (P : Looks) (t : List ℕ) (i : TextLocation) (c : �
   pub place : TextLocation
   pub word : At K Any t i place
   pub check : P t place c e
-
-weak : (L : Lang) (F : Follow) (t : List ℕ) (i e : TextLocation) → At L F t i e → At L Any t i e
-unfolding Any
-weak L F t i e (w, r, d, l, f, o) = (w, r, d, l, tt, o)
 
 -- a reader whose checks look as P says
 pub record Checked {A : Type 0} (P : Looks) (p : Reader A) : Type 0 where

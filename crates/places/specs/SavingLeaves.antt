@@ -19,7 +19,8 @@ use Rattle.grammar.specs.Grammar.{solid}
 use Rattle.grammar.specs.Fits.{Follow, Any, End, Off, Next}
 use Rattle.grammar.specs.Pieces.{one-fits, skip-fits, end-fits, blank-is, solid-blank}
 use Rattle.claims.specs.Numbers.{skip-numbered, placed-number}
-use Rattle.places.specs.Saving.{Good, Way, Left, wrong, finished, Saved, Open, fits-keep, word-way, bind-open, same-trans, same-next, at-end}
+use Rattle.places.specs.Sharp.{same-next}
+use Rattle.places.specs.Saving.{Good, Way, Left, wrong, finished, Saved, Open, fits-keep, word-way, bind-open, same-trans, at-end}
 
 pub no-growth : {A : Type 0} {p : Reader A} → Grows p → (t : List ℕ) (i : TextLocation) (a : A) → p t i ≡ ok a i → ⊥
 no-growth {A} {p} g t i a q =

@@ -89,7 +89,7 @@ need-sharp c none = record { sharp = λ t i. tt }
 need-sharp c (some a) = record { sharp = λ t i. tt }
 
 -- the next byte is the same
-same-next : (t u : List ℕ) (i : TextLocation) (n : ℕ) → Same t u n → byteOf i < n → Alike (rest t i) (rest u i)
+pub same-next : (t u : List ℕ) (i : TextLocation) (n : ℕ) → Same t u n → byteOf i < n → Alike (rest t i) (rest u i)
 same-next t u i n s l = alike (rest t i) (rest u i) (rest-agree t u i 0 (s (byteOf i + 0) (omega arith)))
 
 pub one-sharp : {A : Type 0} (c : ℕ) (g : ℕ → Option A) → Sharp Never (one c g)

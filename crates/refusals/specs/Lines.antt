@@ -31,7 +31,7 @@ use Rattle.refusals.specs.Stages.{chain, given, assoc, at-both}
 unfoldable pub raw : ℕ → Reader (List ℕ)
 raw c = value c give
 
-weak : (L : Lang) (F : Follow) (t : List ℕ) (i e : TextLocation) → At L F t i e → At L Any t i e
+pub weak : (L : Lang) (F : Follow) (t : List ℕ) (i e : TextLocation) → At L F t i e → At L Any t i e
 unfolding Any
 weak L F t i e (w, r, d, l, f, o) = (w, r, d, l, tt, o)
 

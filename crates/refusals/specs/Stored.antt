@@ -23,6 +23,7 @@ use Rattle.grammar.specs.Lang.{_·_, All, Some}
 use Rattle.grammar.specs.Grammar.{blank, space, solid, Gap}
 use Rattle.grammar.specs.Bind.{past-byte, move}
 use Rattle.grammar.specs.Fits.{Fits, Off, fit-run}
+use Rattle.grammar.specs.Lines.{all-join}
 use Rattle.grammar.specs.Pieces.{begin, leading-fits, gap-fits, fit-fixed, loose-is}
 use Rattle.grammar.specs.Exact.{start-rest}
 use Rattle.claims.specs.Terms.{Opening, over}
@@ -147,10 +148,6 @@ blanks (b ∷ l) = go (blank b) refl (blanks l)
     go false s r = ([], b ∷ l, refl, tt, s)
     go true s (z, v, q, a, o) = (b ∷ z, v, ap (λ (x : List ℕ). b ∷ x) q, (s, a), o)
 
-all-both : (g : ℕ → Bool) (u v : List ℕ) → All g u → All g v → All g (u ++ v)
-all-both g [] v a b = b
-all-both g (x ∷ u) v (h, a) b = (h, all-both g u v a b)
-
 -- an opening with more blanks is one
 widened : (u z : List ℕ) → Opening u → All blank z → Opening (u ++ z)
 unfolding _·_ Gap Some
@@ -159,7 +156,7 @@ widened u z (a, b, q, s, (c, d, r, l, (g, n))) h = (
   c ++ (d ++ z),
   ap (λ (x : List ℕ). x ++ z) q ∙ append-assoc a b z ∙ ap (λ (x : List ℕ). a ++ x) (ap (λ (x : List ℕ). x ++ z) r ∙ append-assoc c d z),
   s,
-  (c, d ++ z, refl, l, (all-both blank d z g h, omega (arith, length-append d z))),
+  (c, d ++ z, refl, l, (all-join blank d z g h, omega (arith, length-append d z))),
 )
 
 opens : (t u v : List ℕ) → t ≡ u ++ v → Opening u → (e : TextLocation) × (opening t start ≡ ok tt e)
