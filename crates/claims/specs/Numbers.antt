@@ -13,7 +13,7 @@ use Rattle.text.specs.Reader.{Result, ok, stop, bad, Reader, then, _>>=_}
 use Rattle.text.specs.Leaf.{give, want, need, one, first, judge, Move, go-on, stay, halt, moved, scan, run, fork, forkOf, choose, eot, endIf}
 use Rattle.lexical.specs.Lexical.{is, while, lead, byte, skip, fixed, gap, lineEnd, leading}
 use Rattle.lexical.specs.Token.{upTo, token}
-use Rattle.lexical.specs.Hex.{hexv, hexDigit, hexStart, hexDigits, hexUnit}
+use Rattle.hex.specs.Hex.{hexv, hexDigit, hexStart, hexDigits, hexUnit}
 use Rattle.header.specs.Header.{widthLine, element, arrayLine, rest as headerRest, header}
 use Rattle.decoder.specs.Data.{item, items, brace, closing, tail, trailer}
 use Rattle.image.specs.Rows.{count, ending, whole}

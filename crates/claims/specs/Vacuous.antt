@@ -14,7 +14,7 @@ use Rattle.text.specs.Leaf.{give, want, need, one, run, fork, eot}
 use Rattle.text.specs.Outcome.{Outcome, accepted, refused, unplaced}
 use Rattle.lexical.specs.Lexical.{isBlank, isLoose, byte, skip, fixed, gap, lineEnd, leading}
 use Rattle.lexical.specs.Token.{token}
-use Rattle.lexical.specs.Hex.{hexOf, hexv, hexDigit, isMark, hexStart, hexDigits, hexUnit}
+use Rattle.hex.specs.Hex.{hexOf, hexv, hexDigit, isMark, hexStart, hexDigits, hexUnit}
 use Rattle.integer.specs.Decimal.{isDigit, digitsFrom}
 use Rattle.header.specs.Header.{rest as restOf, Head, endsWith, before, positive, widthLine, element, arrayLine, header}
 use Rattle.decoder.specs.Data.{item, items, brace, closing, tail, trailer, logOf}

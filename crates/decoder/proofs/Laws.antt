@@ -14,7 +14,7 @@ use Rattle.text.proofs.Laws.{next-rest, next-after, end-rest}
 use Rattle.text.proofs.Reading.{bind·laws, fork·laws}
 use Rattle.lexical.specs.Lexical.{isLoose, skip, byte, is}
 use Rattle.lexical.proofs.Laws.{then-yes, byte·laws, onto·laws, row·laws, pass·laws}
-use Rattle.lexical.specs.Hex.{hexByte}
+use Rattle.hex.specs.Hex.{hexByte}
 use Rattle.decoder.specs.Data.{item}
 use Rattle.decoder.specs.Code.{separator}
 

@@ -7,7 +7,7 @@ use Rattle.text.specs.declared.TextLocation.{TextLocation}
 use Rattle.text.specs.Reader.{Result, ok, stop, bad, Reader, _>>=_, _>>_, Local, Firm, Mild, Grows, bind-local, bind-firm}
 use Rattle.text.specs.Leaf.{give, fork, eot, give-local, give-firm}
 use Rattle.lexical.specs.Lexical.{isLoose, skip, byte, is, fixed, locals, milds, firms}
-use Rattle.lexical.specs.Hex.{hexByte, hexUnit-local, hexUnit-mild, hexUnit-firm, hexUnit-grows}
+use Rattle.hex.specs.Hex.{hexByte, hexUnit-local, hexUnit-mild, hexUnit-firm, hexUnit-grows}
 
 -- a data byte: loose space before it, and before each but the first a comma after loose space
 unfoldable pub item : Bool → Reader ℕ

@@ -16,7 +16,7 @@ use Rattle.text.specs.Reader.{ok, _>>=_, _>>_}
 use Rattle.text.specs.Place.{pick, start, rest, past}
 use Rattle.text.specs.Leaf.{give}
 use Rattle.lexical.specs.Lexical.{byte}
-use Rattle.lexical.specs.Hex.{within, hexOf, hexv, hexDigit, isMark, hexStart, hexDigits, hexUnit, hexByte}
+use Rattle.hex.specs.Hex.{within, hexOf, hexv, hexDigit, isMark, hexStart, hexDigits, hexUnit, hexByte}
 use Rattle.header.specs.Header.{Head, header}
 use Rattle.decoder.specs.Data.{item, items, brace, closing, tail, trailer}
 use Rattle.decoder.specs.Step.{bytesOf}

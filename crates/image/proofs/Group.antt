@@ -21,7 +21,7 @@ use Rattle.lexical.specs.Lexical.{isLoose, isBlank, skip, byte, is, fixed, numb
 use Rattle.lexical.specs.declared.ByteRead.{ByteRead}
 use Rattle.lexical.specs.declared.ByteRead.the-variants.{Got, Refused as NotGot}
 use Rattle.lexical.specs.declared.XbmPart.{XbmPart}
-use Rattle.lexical.specs.Hex.{hexOf, hexv, hexDigit, hexStart, hexDigits, hexUnit, isMark}
+use Rattle.hex.specs.Hex.{hexOf, hexv, hexDigit, hexStart, hexDigits, hexUnit, isMark}
 use Rattle.decoder.specs.Data.{item}
 use Rattle.image.specs.declared.Quick.{Quick}
 use Rattle.image.specs.declared.Quick.the-variants.{Hit, Miss}

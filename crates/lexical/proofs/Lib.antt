@@ -1,5 +1,4 @@
 -- What the proofs of `lexical` share, by module.
 pub mod Laws
 pub mod Tokens
-pub mod Hex
 pub mod Lines

@@ -6,8 +6,6 @@ ghost use lib.ListN.{length, drop};
 ghost use Rattle.text.specs.Reader.{ok};
 ghost use Rattle.lexical.specs.Lexical.{isBlank, isLoose, spaceOf, number, told, onto, toldByte, anyByte, skip, gap, fixed, lineEnd, lineOf, lineRest, leading};
 ghost use Rattle.lexical.specs.Token.{Tokened};
-ghost use Rattle.lexical.specs.Hex.{hexOf, hexTable, isMark, hexDigit, hexStart, hexByte};
-use hex_table::HEX;
 use text::Peeked;
 use text::TextLocation;
 use text::Took;
@@ -16,8 +14,6 @@ use text::has_left;
 use text::past_line;
 use text::peek;
 use text::take;
-
-mod hex_table;
 
 // The part of the file in which a rule is broken.
 pub enum XbmPart {
@@ -285,101 +281,5 @@ pub fn read_until_whitespace(
             }
             Took::End => return Token::Read(len, at),
         }
-    }
-}
-
-// A hex digit's value, and 16 of any other byte.
-pub fn hex_value(b: u8) -> u8
-    ensures { λ r. ⌜ r ≡ hexOf b ⌝ }
-{
-    if b < b'0' {
-        return 16;
-    }
-    if b <= b'9' {
-        return b - b'0';
-    }
-    if b < b'A' {
-        return 16;
-    }
-    if b <= b'F' {
-        return b - b'A' + 10;
-    }
-    if b < b'a' {
-        return 16;
-    }
-    if b <= b'f' {
-        return b - b'a' + 10;
-    }
-    16
-}
-
-// The same of all bytes. Call it once, above a loop, and lend it down.
-pub fn hex_values() -> [u8; 256]
-    ensures { λ r. ⌜ r ≡ hexTable ⌝ }
-{
-    HEX
-}
-
-// Read a single hex digit, either upper or lower case.
-pub fn read_hex_digit(text: &[u8], place: TextLocation, part: XbmPart) -> ByteRead
-    ensures { λ r. ⌜ toldByte r ≡ hexDigit (number part) (now (text .entry)) place ⌝ }
-{
-    match take(text, place) {
-        Took::Next(b, next) => {
-            let v = hex_value(b);
-            if v < 16 {
-                ByteRead::Got(v, next)
-            } else {
-                ByteRead::Refused(part, next)
-            }
-        }
-        Took::End => ByteRead::Refused(part, place),
-    }
-}
-
-// `x` or `X`.
-fn is_mark(b: u8) -> bool
-    ensures { λ r. ⌜ r ≡ isMark b ⌝ }
-{
-    if b == b'x' {
-        return true;
-    }
-    b == b'X'
-}
-
-// `0` and then `x` or `X`.
-fn read_hex_start(text: &[u8], place: TextLocation, part: XbmPart) -> Passed
-    ensures { λ r. ⌜ told r ≡ hexStart (number part) (now (text .entry)) place ⌝ }
-{
-    let a = match read_fixed_string(text, place, b"0", part) {
-        Passed::To(p) => p,
-        Passed::Refused(q, at) => return Passed::Refused(q, at),
-    };
-    match take(text, a) {
-        Took::Next(b, next) => {
-            if is_mark(b) {
-                Passed::To(next)
-            } else {
-                Passed::Refused(part, next)
-            }
-        }
-        Took::End => Passed::Refused(part, a),
-    }
-}
-
-// Read a hex-encoded byte (e.g.: 0xA1).
-pub fn read_hex_byte(text: &[u8], place: TextLocation, part: XbmPart) -> ByteRead
-    ensures { λ r. ⌜ toldByte r ≡ hexByte (number part) (now (text .entry)) place ⌝ }
-{
-    let a = match read_hex_start(text, place, part) {
-        Passed::To(p) => p,
-        Passed::Refused(q, at) => return ByteRead::Refused(q, at),
-    };
-    match read_hex_digit(text, a, part) {
-        ByteRead::Got(hi, b) => match read_hex_digit(text, b, part) {
-            ByteRead::Got(lo, c) => ByteRead::Got(hi * 16 + lo, c),
-            ByteRead::Refused(q, at) => ByteRead::Refused(q, at),
-        },
-        ByteRead::Refused(q, at) => ByteRead::Refused(q, at),
     }
 }

@@ -9,7 +9,7 @@ use Rattle.text.specs.Place.{placeOf, rest, after}
 use Rattle.text.specs.Reader.{_>>=_}
 use Rattle.text.specs.Leaf.{give, one, run, fork, eot}
 use Rattle.lexical.specs.Lexical.{isBlank, isLoose, byte, skip, fixed}
-use Rattle.lexical.specs.Hex.{hexOf, hexv, hexDigit, isMark, hexStart, hexDigits, hexUnit}
+use Rattle.hex.specs.Hex.{hexOf, hexv, hexDigit, isMark, hexStart, hexDigits, hexUnit}
 use Rattle.decoder.specs.declared.XbmStreamDecoder.{XbmStreamDecoder}
 use Rattle.decoder.specs.Data.{item, brace, closing, tail, trailer}
 use Rattle.decoder.specs.Step.{foreign, called, stepOf}

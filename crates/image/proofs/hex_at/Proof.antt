@@ -1,5 +1,5 @@
 -- `image::hex_at` meets its contract: each return is a law (`hex-there`).
-use Rattle.lexical.proofs.Hex.{hex-there}
+use Rattle.hex.proofs.Hex.{hex-there}
 use borrow.Author.Needs.{needs}
 use Rattle.image.proofs.hex_at.Statement.{statement}
 use Rattle.image.proofs.hex_at.Tie as tie

@@ -17,11 +17,11 @@ use Rattle.text.specs.Place.{pick, rest, after, tookAt}
 use Rattle.text.specs.Reader.{Result, ok, stop, Reader, _>>=_}
 use Rattle.text.specs.Leaf.{one, first, judge}
 use Rattle.text.proofs.Reading.{bind-ok, bind-stop, one-ok, one-stop, one-end}
 use Rattle.lexical.specs.declared.XbmPart.{XbmPart}
 use Rattle.lexical.specs.Lexical.{number, toldByte}
 use Rattle.lexical.specs.declared.ByteRead.{ByteRead}
 use Rattle.lexical.specs.declared.ByteRead.the-variants.{Got, Refused}
-use Rattle.lexical.specs.Hex.{hexOf, valuesFrom, hexTable, hexv, hexDigit}
+use Rattle.hex.specs.Hex.{hexOf, valuesFrom, hexTable, hexv, hexDigit}
 
 -- the value by the range of the byte
 module _ (b : ℕ) where

@@ -1,8 +1,8 @@
--- `lexical::hex_value` meets its contract: each return is a law (`hex-0`, `hex-1`, `hex-2`, `hex-3`).
-use Rattle.lexical.proofs.Hex.{hex-0, hex-1, hex-2, hex-3, hex-4, hex-5, hex-6}
+-- `hex::hex_value` meets its contract: each return is a law (`hex-0`, `hex-1`, `hex-2`, `hex-3`).
+use Rattle.hex.proofs.Hex.{hex-0, hex-1, hex-2, hex-3, hex-4, hex-5, hex-6}
 use borrow.Author.Needs.{needs}
-use Rattle.lexical.proofs.hex_value.Statement.{statement}
-use Rattle.lexical.proofs.hex_value.Tie as tie
+use Rattle.hex.proofs.hex_value.Statement.{statement}
+use Rattle.hex.proofs.hex_value.Tie as tie
 
 returns : tie.Need-returns
 returns c = search (hex-0, needs)

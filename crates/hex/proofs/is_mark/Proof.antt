@@ -1,8 +1,8 @@
--- `lexical::is_mark` meets its contract.
+-- `hex::is_mark` meets its contract.
 use borrow.Author.Tests.{eq-eqb, ne-eqb}
-use Rattle.lexical.specs.Hex.{isMark}
-use Rattle.lexical.proofs.is_mark.Statement.{statement}
-use Rattle.lexical.proofs.is_mark.Tie as tie
+use Rattle.hex.specs.Hex.{isMark}
+use Rattle.hex.proofs.is_mark.Statement.{statement}
+use Rattle.hex.proofs.is_mark.Tie as tie
 
 returns : tie.Need-returns
 unfolding isMark

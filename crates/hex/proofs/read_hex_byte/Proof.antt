@@ -1,10 +1,10 @@
--- `lexical::read_hex_byte` meets its contract: each return is a law (`pass·laws`, `one·laws`, `hi-fits`, `byte-fits`).
+-- `hex::read_hex_byte` meets its contract: each return is a law (`pass·laws`, `one·laws`, `hi-fits`, `byte-fits`).
 use Rattle.lexical.proofs.Laws.{pass·laws}
-use Rattle.lexical.proofs.Hex.{one·laws, hi-fits, byte-fits}
-use Rattle.lexical.specs.Hex.{hexUnit, hexDigits}
+use Rattle.hex.proofs.Hex.{one·laws, hi-fits, byte-fits}
+use Rattle.hex.specs.Hex.{hexUnit, hexDigits}
 use borrow.Author.Needs.{needs}
-use Rattle.lexical.proofs.read_hex_byte.Statement.{statement}
-use Rattle.lexical.proofs.read_hex_byte.Tie as tie
+use Rattle.hex.proofs.read_hex_byte.Statement.{statement}
+use Rattle.hex.proofs.read_hex_byte.Tie as tie
 
 read-hex-start-requires : tie.Need-read-hex-start-requires
 read-hex-start-requires c κs = search needs

@@ -1,9 +1,9 @@
--- `lexical::read_hex_start` meets its contract: each return is a law (`pass·laws`, `byte·laws`).
+-- `hex::read_hex_start` meets its contract: each return is a law (`pass·laws`, `byte·laws`).
 use Rattle.lexical.proofs.Laws.{pass·laws, byte·laws}
-use Rattle.lexical.specs.Hex.{hexStart}
+use Rattle.hex.specs.Hex.{hexStart}
 use borrow.Author.Needs.{needs}
-use Rattle.lexical.proofs.read_hex_start.Statement.{statement}
-use Rattle.lexical.proofs.read_hex_start.Tie as tie
+use Rattle.hex.proofs.read_hex_start.Statement.{statement}
+use Rattle.hex.proofs.read_hex_start.Tie as tie
 
 slice-aggregate-read-fixed-string : tie.Need-slice-aggregate-read-fixed-string
 slice-aggregate-read-fixed-string c = search needs

@@ -1,9 +1,9 @@
--- `lexical::read_hex_digit` meets its contract: each return is a law (`digit·laws`).
-use Rattle.lexical.proofs.Hex.{digit·laws}
-use Rattle.lexical.specs.Hex.{hexDigit}
+-- `hex::read_hex_digit` meets its contract: each return is a law (`digit·laws`).
+use Rattle.hex.proofs.Hex.{digit·laws}
+use Rattle.hex.specs.Hex.{hexDigit}
 use borrow.Author.Needs.{needs}
-use Rattle.lexical.proofs.read_hex_digit.Statement.{statement}
-use Rattle.lexical.proofs.read_hex_digit.Tie as tie
+use Rattle.hex.proofs.read_hex_digit.Statement.{statement}
+use Rattle.hex.proofs.read_hex_digit.Tie as tie
 
 take-requires : tie.Need-take-requires
 take-requires c κs = search needs

@@ -1,0 +1,2 @@
+-- What the proofs of `hex` share, by module.
+pub mod Hex

@@ -1,0 +1,2 @@
+-- The definitions and laws of `hex`, by module.
+pub mod Hex
