@@ -1,9 +1,11 @@
-// Lists the mask on standard input: reads, calls the listing, writes.
+// Lists the mask on standard input: reads, calls the listing, writes. If a read fails, nothing is listed.
 ghost use Prim.Native.Nat.{_≤_};
 ghost use lib.ListN.{length};
 ghost use Rattle.xbm_list.specs.Program.{ListsInput};
 use header::MAX_IDENTIFIER_LENGTH;
 use header::name_buffer;
+use input::Input;
+use input::read_input;
 use listing::list;
 
 // The limits of document 01: bytes of a text, cells of a picture.
@@ -39,7 +41,10 @@ fn list_input(
 
 fn main() {
     let mut text = [0u8; TEXT_SIZE];
-    let n = io::read_full(0, &mut text);
+    let Input::Read(n) = read_input(0, &mut text) else {
+        io::write_all(2, b"xbm_list: standard input could not be read\n");
+        return;
+    };
     let mut name = name_buffer();
     let mut cells = [0u8; CELLS_SIZE];
     let mut out = [0u8; OUT_SIZE];

@@ -1,26 +1,24 @@
--- `xbm_list::main` meets its contract: what is written is a part of the output (`taken-size`).
+-- `xbm_list::main` meets its contract: what came is within the text buffer (`came-inside`), what is written is a part of the output (`taken-size`).
 use borrow.Author.Needs.{needs}
+use Rattle.input.proofs.Laws.{came-inside}
 use Rattle.xbm_list.proofs.Laws.{taken-size}
 use Rattle.xbm_list.proofs.main.Statement.{statement}
 use Rattle.xbm_list.proofs.main.Tie as tie
 
-slice-aggregate-read-full : tie.Need-slice-aggregate-read-full
-slice-aggregate-read-full c = search needs
+slice-aggregate-read-input : tie.Need-slice-aggregate-read-input
+slice-aggregate-read-input c = search needs
 
-read-full-requires : tie.Need-read-full-requires
-read-full-requires c κs = search needs
+read-input-requires : tie.Need-read-input-requires
+read-input-requires c κs = search needs
 
-name-buffer-requires : tie.Need-name-buffer-requires
-name-buffer-requires c κs = search needs
+enum-known-n : tie.Need-enum-known-n
+enum-known-n c = search needs
 
-list-input-requires : tie.Need-list-input-requires
-list-input-requires c κs = search needs
-
-array-share-prefix-out : tie.Need-array-share-prefix-out
-array-share-prefix-out c = search needs
+enum-told : tie.Need-enum-told
+enum-told c = search needs
 
 slice-aggregate-write-all : tie.Need-slice-aggregate-write-all
-slice-aggregate-write-all c = search (taken-size, needs)
+slice-aggregate-write-all c = search needs
 
 write-all-requires : tie.Need-write-all-requires
 write-all-requires c κs = search needs
@@ -28,15 +26,38 @@ write-all-requires c κs = search needs
 returns : tie.Need-returns
 returns c = search needs
 
+name-buffer-requires : tie.Need-name-buffer-requires
+name-buffer-requires c κs = search needs
+
+list-input-requires : tie.Need-list-input-requires
+list-input-requires c κs = search (came-inside, needs)
+
+array-share-prefix-out : tie.Need-array-share-prefix-out
+array-share-prefix-out c = search needs
+
+slice-aggregate-write-all-2 : tie.Need-slice-aggregate-write-all-2
+slice-aggregate-write-all-2 c = search (taken-size, needs)
+
+write-all-requires-2 : tie.Need-write-all-requires-2
+write-all-requires-2 c κs = search needs
+
+returns-2 : tie.Need-returns-2
+returns-2 c = search needs
+
 pub main-spec : {M : Type 1} → statement M
 main-spec =
     tie.close
     (tie.spec
-    slice-aggregate-read-full
-    read-full-requires
+    slice-aggregate-read-input
+    read-input-requires
+    enum-known-n
+    enum-told
+    slice-aggregate-write-all
+    write-all-requires
+    returns
     name-buffer-requires
     list-input-requires
     array-share-prefix-out
-    slice-aggregate-write-all
-    write-all-requires
-    returns)
+    slice-aggregate-write-all-2
+    write-all-requires-2
+    returns-2)

@@ -1,0 +1,2 @@
+-- The definitions of `input`, by module.
+pub mod Input
