@@ -20,14 +20,15 @@ use Rattle.lexical.specs.declared.Token.the-variants.{Read, Refused as Long}
 use Rattle.lexical.specs.Lexical.{isLoose, number, told, onto}
 use Rattle.lexical.specs.Token.{Tokened, sizeOf}
 use Rattle.text.proofs.Reading.{give-ok}
-use Rattle.lexical.proofs.Laws.{number-fits, row-first, pass-to, pass-refused}
+use Rattle.lexical.proofs.Laws.{row-first, pass-to, pass-refused}
 use Rattle.lexical.proofs.Tokens.{token-fits, token-size, token·laws}
+use Rattle.error.specs.declared.XbmDecodeError.{XbmDecodeError}
+use Rattle.error.specs.declared.XbmDecodeError.the-variants.{Parse}
+use Rattle.error.specs.declared.Refusal.{Refusal}
+use Rattle.error.specs.declared.Refusal.the-variants.{Placed, Unplaced}
+use Rattle.error.specs.Error.{refusalOf, toldRefusal, toldError}
 use Rattle.header.specs.Header.{Head, endWidth, endsWith, before, value, symbol, opening, header}
-use Rattle.header.specs.Answer.{refusalOf, toldRefusal, toldError, toldHeader, nameLength, stored, defineLine, sidesOf, widthSymbol, Symboled, Got, Headed}
-use Rattle.header.specs.declared.XbmDecodeError.{XbmDecodeError}
-use Rattle.header.specs.declared.XbmDecodeError.the-variants.{Parse, DecodeInteger}
-use Rattle.header.specs.declared.Refusal.{Refusal}
-use Rattle.header.specs.declared.Refusal.the-variants.{Placed, Unplaced}
+use Rattle.header.specs.Answer.{toldHeader, nameLength, stored, defineLine, sidesOf, widthSymbol, Symboled, Got, Headed}
 use Rattle.header.specs.declared.XbmHeaderData.{XbmHeaderData}
 use Rattle.header.specs.declared.HeaderRead.{HeaderRead}
 use Rattle.header.specs.declared.HeaderRead.the-variants.{Read as HeaderIs, Refused}
@@ -96,17 +97,6 @@ module _ (m : Token) (later : List ℕ) (e : sizeOf m ≤ length later) {n : ℕ
   size-taken = sym (length-take-le n later size-fits)
 
 pub ruleset size·laws = (size-fits, size-taken)
-
--- ---- an error's number
-
-module _ {e : XbmDecodeError} where
-  pub refusal-parse : (part : XbmPart) {n : ℕ} {p : TextLocation} → e ≡ Parse part p → n ≡ number part → Placed n p ≡ refusalOf e
-  refusal-parse part h k = rw (h, k)
-
-  pub refusal-integer : (part : XbmPart) {n : ℕ} → e ≡ DecodeInteger part → n ≡ number part → Unplaced (n + 10) ≡ refusalOf e
-  refusal-integer part h k = rw (h, k)
-
-pub ruleset refusal·laws = (number-fits, refusal-parse, refusal-integer)
 
 -- the length of the name, of what is told
 abbrev toldLength : Outcome (Ended Head) → ℕ

@@ -1,4 +1,4 @@
--- What the header's code answers, as document 01's numbers and values; and what it leaves in the lent name buffer.
+-- What the header's code answers, as document 01's values; and what it leaves in the lent name buffer.
 use Prim.Native.Nat.{ℕ, _+_, _≤_}
 use mathlib.Core.Path.{_≡_}
 use mathlib.Core.Option.{Option, none, some}
@@ -8,17 +8,14 @@ use lib.IntN.{ℤ}
 use Rattle.text.specs.declared.TextLocation.{TextLocation}
 use Rattle.text.specs.Place.{start}
 use Rattle.text.specs.Reader.{Result, ok, stop, bad, endOf, Reader, _>>=_, _>>_}
-use Rattle.text.specs.Outcome.{Outcome, accepted, refused, unplaced, Ended, ending-at, shown}
-use Rattle.lexical.specs.Lexical.{isLoose, number}
+use Rattle.text.specs.Outcome.{Outcome, accepted, Ended, ending-at, shown}
+use Rattle.lexical.specs.Lexical.{isLoose}
 use Rattle.text.specs.Ascii.{ascii}
 use Rattle.text.specs.Leaf.{give, want, need, fork}
 use Rattle.lexical.specs.declared.Token.{Token}
 use Rattle.lexical.specs.Token.{token, span, overlay, toldToken, sizeOf}
+use Rattle.error.specs.Error.{toldError}
 use Rattle.header.specs.Header.{Head, endWidth, before, value, unsigned, signed, positive, symbol, ending, opening, header}
-use Rattle.header.specs.declared.XbmDecodeError.{XbmDecodeError}
-use Rattle.header.specs.declared.XbmDecodeError.the-variants.{Parse, DecodeInteger, ZeroWidth, ZeroHeight}
-use Rattle.header.specs.declared.Refusal.{Refusal}
-use Rattle.header.specs.declared.Refusal.the-variants.{Placed, Unplaced}
 use Rattle.header.specs.declared.Hotspot.{Hotspot}
 use Rattle.header.specs.declared.Hotspot.the-variants.{Absent, At}
 use Rattle.header.specs.declared.XbmHeaderData.{XbmHeaderData}
@@ -29,21 +26,6 @@ use Rattle.header.specs.declared.CoordinateRead.{CoordinateRead}
 use Rattle.header.specs.declared.CoordinateRead.the-variants.{Coordinate, Refused as NoCoordinate}
 use Rattle.header.specs.declared.HotspotRead.{HotspotRead}
 use Rattle.header.specs.declared.HotspotRead.the-variants.{Spot, Refused as NoSpot}
-
--- a refusal's number, by document 01, and its place where one is told
-abbrev pub refusalOf : XbmDecodeError → Refusal
-refusalOf (Parse part p) = Placed (number part) p
-refusalOf (DecodeInteger part) = Unplaced (number part + 10)
-refusalOf ZeroWidth = Unplaced 21
-refusalOf ZeroHeight = Unplaced 22
-
--- what is told of it
-abbrev pub toldRefusal : {A : Type 0} → Refusal → Outcome A
-toldRefusal (Placed c p) = refused c p
-toldRefusal (Unplaced c) = unplaced c
-
-abbrev pub toldError : {A : Type 0} → XbmDecodeError → Outcome A
-toldError e = toldRefusal (refusalOf e)
 
 abbrev pub hotOf : Hotspot → Option (ℤ × ℤ)
 hotOf Absent = none

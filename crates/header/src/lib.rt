@@ -9,7 +9,8 @@ ghost use Rattle.text.specs.Leaf.{give};
 ghost use Rattle.text.specs.Ascii.{ascii};
 ghost use Rattle.lexical.specs.Lexical.{number, told, onto};
 ghost use Rattle.header.specs.Header.{endsWith, opening, value, symbol, element, arrayLine};
-ghost use Rattle.header.specs.Answer.{refusalOf, hotOf, toldCoordinate, toldSpot, toldHeader, defineLine, coordinateLine, spot, endingOf, restOf, heightOf, sidesOf, Symboled, Got, Headed};
+ghost use Rattle.header.specs.Answer.{hotOf, toldCoordinate, toldSpot, toldHeader, defineLine, coordinateLine, spot, endingOf, restOf, heightOf, sidesOf, Symboled, Got, Headed};
+use error::XbmDecodeError;
 use integer::Signed;
 use integer::Unsigned;
 use integer::parse_i32;
@@ -17,7 +18,6 @@ use integer::parse_u32;
 use lexical::Passed;
 use lexical::Token;
 use lexical::XbmPart;
-use lexical::part_number;
 use lexical::read_fixed_string;
 use lexical::read_to_newline;
 use lexical::read_until_whitespace;
@@ -38,32 +38,6 @@ pub fn name_buffer() -> [u8; MAX_IDENTIFIER_LENGTH]
     ensures { λ r. ⌜ length r ≡ 256 ⌝ }
 {
     [0u8; MAX_IDENTIFIER_LENGTH]
-}
-
-// Error that can occur while parsing an XBM file.
-pub enum XbmDecodeError {
-    Parse(XbmPart, TextLocation),
-    DecodeInteger(XbmPart),
-    ZeroWidth,
-    ZeroHeight,
-}
-
-// A refusal as document 01 tells it: its number, and its place where one is told.
-pub enum Refusal {
-    Placed(u32, TextLocation),
-    Unplaced(u32),
-}
-
-// The number of an error, and its place.
-pub fn refusal_of(e: XbmDecodeError) -> Refusal
-    ensures { λ r. ⌜ r ≡ refusalOf e ⌝ }
-{
-    match e {
-        XbmDecodeError::Parse(part, p) => Refusal::Placed(part_number(part), p),
-        XbmDecodeError::DecodeInteger(part) => Refusal::Unplaced(part_number(part) + 10),
-        XbmDecodeError::ZeroWidth => Refusal::Unplaced(21),
-        XbmDecodeError::ZeroHeight => Refusal::Unplaced(22),
-    }
 }
 
 pub enum Hotspot {

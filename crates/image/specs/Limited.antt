@@ -12,8 +12,9 @@ use Rattle.text.specs.Outcome.{Outcome, accepted, refused, unplaced, outcome}
 use Rattle.lexical.specs.Token.{overlay}
 use Rattle.header.specs.declared.XbmHeaderData.{XbmHeaderData}
 use Rattle.header.specs.Header.{Head, header}
-use Rattle.header.specs.Answer.{refusalOf, toldRefusal, headOf, stored}
-use Rattle.header.specs.declared.Refusal.the-variants.{Unplaced}
+use Rattle.error.specs.Error.{refusalOf, toldRefusal}
+use Rattle.header.specs.Answer.{headOf, stored}
+use Rattle.error.specs.declared.Refusal.the-variants.{Unplaced}
 use Rattle.decoder.specs.Data.{logOf}
 use Rattle.image.specs.Cells.{painted}
 use Rattle.image.specs.Rows.{count, whole}

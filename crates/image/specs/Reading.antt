@@ -12,7 +12,8 @@ use Rattle.text.specs.Outcome.{Outcome, accepted, unplaced, outcome}
 use Rattle.lexical.specs.Token.{overlay}
 use Rattle.header.specs.declared.XbmHeaderData.{XbmHeaderData}
 use Rattle.header.specs.Header.{Head, header}
-use Rattle.header.specs.Answer.{headOf, toldError, stored}
+use Rattle.error.specs.Error.{toldError}
+use Rattle.header.specs.Answer.{headOf, stored}
 use Rattle.decoder.specs.Data.{logOf}
 use Rattle.image.specs.Cells.{painted}
 use Rattle.image.specs.Rows.{count, whole}

@@ -1,8 +1,8 @@
 -- `refusal_of` meets its contract: each return is a law (`refusal·laws`).
 use borrow.Author.Needs.{needs}
-use Rattle.header.proofs.Laws.{refusal·laws}
-use Rattle.header.proofs.refusal_of.Statement.{statement}
-use Rattle.header.proofs.refusal_of.Tie as tie
+use Rattle.error.proofs.Laws.{refusal·laws}
+use Rattle.error.proofs.refusal_of.Statement.{statement}
+use Rattle.error.proofs.refusal_of.Tie as tie
 
 enum-known-e : tie.Need-enum-known-e
 enum-known-e c = search needs
