@@ -2,20 +2,20 @@
 use Prim.Native.Nat.{ℕ, _+_, _≤_}
 use mathlib.Core.Path.{_≡_}
 use mathlib.Core.Option.{Option, none, some}
-use mathlib.Core.List.{List, []}
+use mathlib.Core.List.{List}
 use lib.ListN.{length, take}
 use lib.IntN.{ℤ}
 use Rattle.text.specs.declared.TextLocation.{TextLocation}
 use Rattle.text.specs.Place.{start}
-use Rattle.text.specs.Reader.{Result, ok, stop, bad, endOf, Reader, _>>=_, _>>_}
+use Rattle.text.specs.Reader.{Result, ok, stop, bad, Reader, _>>=_, _>>_}
 use Rattle.text.specs.Outcome.{Outcome, accepted, Ended, ending-at, shown}
-use Rattle.lexical.specs.Lexical.{isLoose}
 use Rattle.text.specs.Ascii.{ascii}
-use Rattle.text.specs.Leaf.{give, want, need, fork}
+use Rattle.text.specs.Leaf.{give, need, fork}
 use Rattle.lexical.specs.declared.Token.{Token}
-use Rattle.lexical.specs.Token.{token, span, overlay, toldToken, sizeOf}
+use Rattle.lexical.specs.Token.{overlay, toldToken, sizeOf}
 use Rattle.error.specs.Error.{toldError}
-use Rattle.header.specs.Header.{Head, endWidth, before, value, unsigned, signed, positive, symbol, ending, opening, header}
+use Rattle.symbol.specs.Symbol.{stored}
+use Rattle.header.specs.Header.{Head, value, unsigned, signed, positive, symbol, ending, header}
 use Rattle.header.specs.declared.Hotspot.{Hotspot}
 use Rattle.header.specs.declared.Hotspot.the-variants.{Absent, At}
 use Rattle.header.specs.declared.XbmHeaderData.{XbmHeaderData}
@@ -46,15 +46,6 @@ abbrev pub toldSpot : HotspotRead → Outcome (Ended (ℤ × ℤ))
 toldSpot (Spot x y p) = accepted (ending-at (x, y) p)
 toldSpot (NoSpot e) = toldError e
 
--- the symbol's bytes that reading a text stores: those taken from where the symbol starts, none where nothing opens it
-abbrev pub storedIn : ℕ → List ℕ → Result (Unit {0}) → List ℕ
-storedIn limit t (ok a i) = span t i (endOf (token isLoose 1 limit t i))
-storedIn limit t (stop c e) = []
-storedIn limit t (bad c e) = []
-
-unfoldable pub stored : ℕ → List ℕ → List ℕ
-stored limit t = storedIn limit t (opening t start)
-
 -- ---- the header's parts, as the code reads them
 
 -- a define line whose symbol is known: its token
@@ -81,16 +72,6 @@ heightOf name w = defineLine 2 name (ascii "_height") >>= λ d. unsigned 12 d >>
 
 unfoldable pub sidesOf : List ℕ → Reader Head
 sidesOf name = value 1 give >>= λ d. unsigned 11 d >>= λ v. need 21 (positive v) >>= λ w. heightOf name w
-
--- the name in the width's symbol
-unfoldable pub widthSymbol : ℕ → Reader (List ℕ)
-widthSymbol limit = opening >> token isLoose 1 limit >>= λ s. want 1 (before endWidth s)
-
--- reading the width's symbol into a lent buffer: the name in it, within the buffer; and the buffer later
-pub record Symboled (text lent later : List ℕ) (r : Token) : Type 0 where
-  pub answer : toldToken later r ≡ widthSymbol (length lent) text start
-  pub fits : sizeOf r ≤ length later
-  pub symbol : later ≡ overlay (stored (length lent) text) lent
 
 -- reading a token into the digits: what p reads, within them
 pub record Got (p : Reader (List ℕ)) (text : List ℕ) (place : TextLocation) (later : List ℕ) (r : Token) : Type 0 where

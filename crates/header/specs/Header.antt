@@ -1,17 +1,17 @@
 -- The header, as one reading after another, with its laws.
-use Prim.Native.Nat.{ℕ, _+_, _-_}
+use Prim.Native.Nat.{ℕ}
 use mathlib.Core.Option.{Option, none, some}
-use mathlib.Core.Bool.{Bool, true, false}
-use mathlib.Core.List.{List, [], _∷_}
-use lib.ListN.{length, take, drop}
-use lib.Dec.{leb, eqb}
+use mathlib.Core.Bool.{true}
+use mathlib.Core.List.{List}
+use lib.Dec.{eqb}
 use lib.IntN.{ℤ}
 use Rattle.text.specs.Ascii.{ascii}
 use Rattle.text.specs.Place.{pick}
-use Rattle.text.specs.Reader.{Result, ok, stop, bad, Reader, _>>=_, _>>_, Local, Firm, Mild, Grows}
+use Rattle.text.specs.Reader.{Reader, _>>=_, _>>_, Local, Firm, Mild, Grows}
 use Rattle.text.specs.Leaf.{give, want, need, fork}
 use Rattle.lexical.specs.Lexical.{isLoose, fixed, gap, lineEnd, leading, locals, milds, firms, gap-local, gap-mild, lineEnd-local, lineEnd-mild, lineEnd-firm, lineEnd-grows, leading-local, leading-mild}
 use Rattle.lexical.specs.Token.{token, token-local, token-mild}
+use Rattle.symbol.specs.Symbol.{hashDefine, endWidth, before}
 use Rattle.integer.specs.Decimal.{parseU32, parseI32, unsignedOf, signedOf}
 
 -- what a header says
@@ -21,30 +21,9 @@ pub record Head : Type 0 where
   pub height : ℕ
   pub hot : Option (ℤ × ℤ)
 
--- ---- words
-
-abbrev pub hashDefine : List ℕ
-hashDefine = ascii "#define"
-
-abbrev pub endWidth : List ℕ
-endWidth = ascii "_width"
-
 -- an integer token has at most so many bytes
 abbrev pub tokenLimit : ℕ
 tokenLimit = 11
-
-abbrev pub sameBytes : List ℕ → List ℕ → Bool
-sameBytes [] [] = true
-sameBytes [] (y ∷ b) = false
-sameBytes (x ∷ a) [] = false
-sameBytes (x ∷ a) (y ∷ b) = pick (eqb x y) (sameBytes a b) false
-
-unfoldable pub endsWith : List ℕ → List ℕ → Bool
-endsWith w z = pick (leb (length z) (length w)) (sameBytes (drop (length w - length z) w) z) false
-
--- what precedes the ending z
-unfoldable pub before : List ℕ → List ℕ → Option (List ℕ)
-before z w = pick (endsWith w z) (some (take (length w - length z) w)) none
 
 -- ---- lines
 
@@ -105,21 +84,9 @@ rest name w h = fork 5 35 (hotspot name (λ x y. ending name w h (some (x, y))))
 unfoldable pub header : ℕ → Reader Head
 header limit = leading 1 true >> widthLine limit >>= λ nw. line 2 (nw .0) (ascii "_height") (side 12 22) >>= λ h. rest (nw .0) (nw .1) h
 
--- what precedes the width's symbol
-unfoldable pub opening : Reader (Unit {0})
-opening = leading 1 true >> fixed 1 hashDefine >> gap 1
-
 -- ---- laws
 
 pub ruleset line-laws = (gap-local, gap-mild, lineEnd-local, lineEnd-mild, lineEnd-firm, lineEnd-grows, token-local, token-mild, leading-local, leading-mild)
-
-pub opening-local : Local opening
-unfolding opening
-opening-local = search (locals, line-laws) depth 20
-
-pub opening-mild : Mild opening
-unfolding opening
-opening-mild = search (milds, locals, line-laws) depth 20
 
 module _ (limit : ℕ) where
   pub width-local : Local (widthLine limit)

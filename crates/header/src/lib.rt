@@ -2,14 +2,12 @@
 ghost use mathlib.Core.Bool.{true};
 ghost use mathlib.Core.Path.{_≡_};
 ghost use Prim.Native.Nat.{_+_};
-ghost use lib.ListN.{length};
-ghost use Rattle.text.specs.Place.{start};
 ghost use Rattle.text.specs.Outcome.{shown};
 ghost use Rattle.text.specs.Leaf.{give};
 ghost use Rattle.text.specs.Ascii.{ascii};
 ghost use Rattle.lexical.specs.Lexical.{number, told, onto};
-ghost use Rattle.header.specs.Header.{endsWith, opening, value, symbol, element, arrayLine};
-ghost use Rattle.header.specs.Answer.{hotOf, toldCoordinate, toldSpot, toldHeader, defineLine, coordinateLine, spot, endingOf, restOf, heightOf, sidesOf, Symboled, Got, Headed};
+ghost use Rattle.header.specs.Header.{value, symbol, element, arrayLine};
+ghost use Rattle.header.specs.Answer.{hotOf, toldCoordinate, toldSpot, toldHeader, defineLine, coordinateLine, spot, endingOf, restOf, heightOf, sidesOf, Got, Headed};
 use error::XbmDecodeError;
 use integer::Signed;
 use integer::Unsigned;
@@ -22,23 +20,12 @@ use lexical::read_fixed_string;
 use lexical::read_to_newline;
 use lexical::read_until_whitespace;
 use lexical::read_whitespace_gap;
-use lexical::skip_non_define_lines;
 use lexical::then_fixed;
 use lexical::then_gap;
+use symbol::read_width_symbol;
 use text::TextLocation;
 use text::Took;
-use text::beginning;
 use text::take;
-
-// A limit on the length of a #define symbol (name and `_width`), for callers that have no other: the name buffer's length is the limit.
-pub const MAX_IDENTIFIER_LENGTH: usize = 256;
-
-// A name buffer for such callers, of document 01's 256 bytes.
-pub fn name_buffer() -> [u8; MAX_IDENTIFIER_LENGTH]
-    ensures { λ r. ⌜ length r ≡ 256 ⌝ }
-{
-    [0u8; MAX_IDENTIFIER_LENGTH]
-}
 
 pub enum Hotspot {
     Absent,
@@ -74,54 +61,6 @@ pub enum CoordinateRead {
 pub enum HotspotRead {
     Spot(i32, i32, TextLocation),
     Refused(XbmDecodeError),
-}
-
-// Whether `bytes` ends with `suffix`.
-fn ends_with(bytes: &[u8], suffix: &[u8]) -> bool
-    ensures { λ r. ⌜ r ≡ endsWith (now (bytes .entry)) (now (suffix .entry)) ⌝ }
-{
-    if bytes.len() < suffix.len() {
-        return false;
-    }
-    let start = bytes.len() - suffix.len();
-    let mut i = 0;
-    while i < suffix.len() {
-        if bytes[start + i] == suffix[i] {
-            i += 1;
-        } else {
-            return false;
-        }
-    }
-    true
-}
-
-// What precedes the width's symbol: leading lines, `#define`, a gap.
-fn read_opening(text: &[u8]) -> Passed
-    ensures { λ r. ⌜ told r ≡ opening (now (text .entry)) start ⌝ }
-{
-    let a = skip_non_define_lines(text, beginning(), XbmPart::Width);
-    let b = then_fixed(text, a, b"#define", XbmPart::Width);
-    then_gap(text, b, XbmPart::Width)
-}
-
-// The width's symbol, stored in `name`; the answer has the length of the name in it.
-fn read_width_symbol(text: &[u8], name: &mut [u8]) -> Token
-    ensures { λ r. ⌜ Symboled (now (text .entry)) (now (name .entry)) (now (name .exit)) r ⌝ }
-{
-    let a = match read_opening(text) {
-        Passed::To(p) => p,
-        Passed::Refused(q, at) => return Token::Refused(q, at),
-    };
-    match read_until_whitespace(text, a, name, XbmPart::Width) {
-        Token::Read(n, b) => {
-            if ends_with(&name[..n], b"_width") {
-                Token::Read(n - 6, b)
-            } else {
-                Token::Refused(XbmPart::Width, b)
-            }
-        }
-        Token::Refused(q, at) => Token::Refused(q, at),
-    }
 }
 
 // A gap, an integer token, and the line's end.

@@ -15,12 +15,12 @@ use Rattle.text.specs.Outcome.{unplaced, outcome, Ended, shown}
 use Rattle.error.specs.declared.XbmDecodeError.{XbmDecodeError}
 use Rattle.error.specs.declared.Refusal.{Refusal}
 use Rattle.error.specs.declared.Refusal.the-variants.{Unplaced}
+use Rattle.error.proofs.Told.{error-never, error-placed, error-unplaced}
+use Rattle.error.specs.Error.{refusalOf, toldError}
 use Rattle.header.specs.declared.XbmHeaderData.{XbmHeaderData}
 use Rattle.header.specs.declared.HeaderRead.the-variants.{Read as HeadRead, Refused as HeadRefused}
 use Rattle.header.specs.declared.HeaderAnswer.{HeaderAnswer}
-use Rattle.error.proofs.Told.{error-never, error-placed, error-unplaced}
 use Rattle.header.specs.Header.{Head, header}
-use Rattle.error.specs.Error.{refusalOf, toldError}
 use Rattle.header.specs.Answer.{headOf, nameLength, Headed}
 use Rattle.decoder.specs.Data.{logOf}
 use Rattle.image.specs.declared.ImageRead.{ImageRead}

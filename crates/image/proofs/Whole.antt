@@ -17,13 +17,14 @@ use Rattle.text.specs.Outcome.{Outcome, accepted, refused, unplaced, outcome, E
 use Rattle.lexical.specs.declared.XbmPart.{XbmPart}
 use Rattle.error.specs.declared.XbmDecodeError.{XbmDecodeError}
 use Rattle.error.specs.declared.XbmDecodeError.the-variants.{Parse}
+use Rattle.error.proofs.Told.{error-never, error-placed, error-unplaced}
+use Rattle.error.specs.Error.{toldError}
+use Rattle.symbol.specs.Symbol.{stored}
 use Rattle.header.specs.declared.XbmHeaderData.{XbmHeaderData}
 use Rattle.header.specs.declared.HeaderRead.the-variants.{Read as HeadRead, Refused as HeadRefused}
 use Rattle.header.specs.declared.HeaderAnswer.{HeaderAnswer}
-use Rattle.error.proofs.Told.{error-never, error-placed, error-unplaced}
 use Rattle.header.specs.Header.{Head, positive, rest, widthLine, header}
-use Rattle.error.specs.Error.{toldError}
-use Rattle.header.specs.Answer.{headOf, nameLength, stored, Headed}
+use Rattle.header.specs.Answer.{headOf, nameLength, Headed}
 use Rattle.image.specs.declared.Rows.{Rows}
 use Rattle.image.specs.declared.Rows.the-variants.{Done, Refused as RowsRefused, Mismatch}
 use Rattle.image.specs.declared.ImageRead.{ImageRead}

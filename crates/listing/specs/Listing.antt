@@ -10,8 +10,8 @@ use Rattle.text.specs.Ascii.{ascii}
 use Rattle.text.specs.declared.TextLocation.{TextLocation}
 use Rattle.text.specs.Place.{pick}
 use Rattle.text.specs.Outcome.{Outcome, accepted, refused, unplaced}
-use Rattle.header.specs.Header.{Head}
 use Rattle.error.specs.Error.{toldRefusal}
+use Rattle.header.specs.Header.{Head}
 use Rattle.header.specs.Answer.{headOf}
 use Rattle.image.specs.Ink.{inkOf}
 use Rattle.image.specs.Reading.{Reading}

@@ -13,11 +13,11 @@ use Rattle.text.specs.Outcome.{Outcome, accepted, refused, unplaced, Ended, end
 use Rattle.error.specs.declared.XbmDecodeError.{XbmDecodeError}
 use Rattle.error.specs.declared.Refusal.{Refusal}
 use Rattle.error.specs.declared.Refusal.the-variants.{Placed, Unplaced}
+use Rattle.error.specs.Error.{refusalOf, toldRefusal, toldError}
 use Rattle.header.specs.declared.HeaderRead.{HeaderRead}
 use Rattle.header.specs.declared.HeaderRead.the-variants.{Read, Refused}
 use Rattle.header.specs.declared.HeaderAnswer.{HeaderAnswer}
 use Rattle.header.specs.Header.{Head}
-use Rattle.error.specs.Error.{refusalOf, toldRefusal, toldError}
 use Rattle.header.specs.Answer.{toldHeader, nameLength, Headed}
 use Rattle.name.specs.Parted.{handed, headerFor, laterBuffer, Stored, Parted}
 

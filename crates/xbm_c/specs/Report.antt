@@ -11,10 +11,11 @@ use Rattle.text.specs.Outcome.{Outcome, accepted, refused, unplaced, Ended, end
 use Rattle.lexical.specs.Token.{overlay}
 use Rattle.error.specs.declared.Refusal.{Refusal}
 use Rattle.error.specs.declared.Refusal.the-variants.{Placed, Unplaced}
+use Rattle.symbol.specs.Symbol.{stored}
 use Rattle.header.specs.declared.Hotspot.{Hotspot}
 use Rattle.header.specs.declared.Hotspot.the-variants.{Absent, At}
 use Rattle.header.specs.Header.{Head, header}
-use Rattle.header.specs.Answer.{stored, nameLength}
+use Rattle.header.specs.Answer.{nameLength}
 use Rattle.image.specs.Reading.{reading}
 use Rattle.xbm_c.specs.declared.Summary.{Summary}
 

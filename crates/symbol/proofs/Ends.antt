@@ -11,7 +11,7 @@ use lib.ListN.{length, drop, getD, drop-of-length-le}
 use lib.Seq.{drop-cons}
 use lib.Dec.{leb}
 use Rattle.text.specs.Place.{pick}
-use Rattle.header.specs.Header.{sameBytes, endsWith}
+use Rattle.symbol.specs.Symbol.{sameBytes, endsWith}
 
 pub ends-short : (w x : List ℕ) → length w < length x → false ≡ endsWith w x
 unfolding endsWith

@@ -1,10 +1,10 @@
 -- `read_opening` meets its contract. A row of three readings, the first where the text starts.
 use Rattle.lexical.proofs.Laws.{row-more}
-use Rattle.header.proofs.Laws.{row-start}
-use Rattle.header.specs.Header.{opening}
+use Rattle.symbol.proofs.Laws.{row-start}
+use Rattle.symbol.specs.Symbol.{opening}
 use borrow.Author.Needs.{needs}
-use Rattle.header.proofs.read_opening.Statement.{statement}
-use Rattle.header.proofs.read_opening.Tie as tie
+use Rattle.symbol.proofs.read_opening.Statement.{statement}
+use Rattle.symbol.proofs.read_opening.Tie as tie
 
 beginning-requires : tie.Need-beginning-requires
 beginning-requires c κs = search needs

@@ -1,8 +1,8 @@
 -- `read_width_symbol` meets its contract. What opens the symbol, its token and its ending each have a law, which says what the buffer holds too.
-use Rattle.header.proofs.Laws.{symbol·laws}
+use Rattle.symbol.proofs.Laws.{symbol·laws}
 use borrow.Author.Needs.{needs}
-use Rattle.header.proofs.read_width_symbol.Statement.{statement}
-use Rattle.header.proofs.read_width_symbol.Tie as tie
+use Rattle.symbol.proofs.read_width_symbol.Statement.{statement}
+use Rattle.symbol.proofs.read_width_symbol.Tie as tie
 
 read-opening-requires : tie.Need-read-opening-requires
 read-opening-requires c κs = search needs

@@ -3,10 +3,10 @@ use borrow.Author.Needs.{needs}
 use Prim.Native.Nat.{_+_, _-_, _≤_}
 use mathlib.Core.Path.{_≡_}
 use lib.ListN.{length, drop}
-use Rattle.header.specs.Header.{sameBytes, endsWith}
-use Rattle.header.proofs.Ends.{ends·laws}
-use Rattle.header.proofs.ends_with.Statement.{statement}
-use Rattle.header.proofs.ends_with.Tie as tie
+use Rattle.symbol.specs.Symbol.{sameBytes, endsWith}
+use Rattle.symbol.proofs.Ends.{ends·laws}
+use Rattle.symbol.proofs.ends_with.Statement.{statement}
+use Rattle.symbol.proofs.ends_with.Tie as tie
 
 abbrev Inv-loop : tie.InvT-loop
 Inv-loop bytes suffix start i₀ i =
