@@ -3,7 +3,6 @@ use Prim.Native.Nat.{ℕ}
 use borrow.Author.Tests.{eq-eqb, ne-eqb}
 use mathlib.Core.Path.{_≡_, refl}
 use mathlib.Core.List.{List}
-use lib.ListN.{take}
 use lib.IntN.{ℤ}
 use Rattle.text.specs.declared.TextLocation.{TextLocation}
 use Rattle.text.specs.declared.Took.{Took}
@@ -11,14 +10,8 @@ use Rattle.text.specs.declared.Took.the-variants.{Next, End}
 use Rattle.text.specs.Place.{tookAt}
 use Rattle.text.specs.Reader.{Reader, _>>=_}
 use Rattle.text.specs.Outcome.{Outcome, accepted, refused, unplaced, Ended, ending-at, shown}
-use Rattle.text.specs.Leaf.{give, need, fork}
+use Rattle.text.specs.Leaf.{need, fork}
 use Rattle.text.proofs.Reading.{fork-first, fork-second, fork-neither, fork-end}
-use Rattle.lexical.specs.declared.XbmPart.{XbmPart}
-use Rattle.lexical.specs.declared.Passed.{Passed}
-use Rattle.lexical.specs.declared.Passed.the-variants.{To, Refused as Stopped}
-use Rattle.lexical.specs.declared.Token.{Token}
-use Rattle.lexical.specs.declared.Token.the-variants.{Read, Refused as Long}
-use Rattle.lexical.specs.Lexical.{number, told}
 use Rattle.integer.specs.declared.Unsigned.{Unsigned}
 use Rattle.integer.specs.declared.Unsigned.the-variants.{Value, Bad}
 use Rattle.integer.specs.declared.Signed.{Signed}
@@ -27,31 +20,13 @@ use Rattle.integer.specs.Decimal.{parseU32, parseI32, unsignedOf, signedOf}
 use Rattle.error.specs.declared.XbmDecodeError.{XbmDecodeError}
 use Rattle.error.specs.Error.{toldError}
 use Rattle.error.proofs.Told.{show-accepted, show-error}
-use Rattle.header.specs.Header.{positive}
-use Rattle.header.specs.Answer.{toldCoordinate, toldSpot, Got}
+use Rattle.lines.proofs.Told.{line·laws}
+use Rattle.lines.specs.Lines.{positive}
+use Rattle.header.specs.Answer.{toldCoordinate, toldSpot}
 use Rattle.header.specs.declared.CoordinateRead.{CoordinateRead}
 use Rattle.header.specs.declared.CoordinateRead.the-variants.{Coordinate, Refused as NoCoordinate}
 use Rattle.header.specs.declared.HotspotRead.{HotspotRead}
 use Rattle.header.specs.declared.HotspotRead.the-variants.{Spot, Refused as NoSpot}
-
--- the answers, one by one
-module _ {B : Type 0} (p : Reader (Unit {0})) (f : Unit {0} → Reader B) (t : List ℕ) (i : TextLocation) {m : Passed} {z : Outcome (Ended B)} (e : told m ≡ p t i) where
-  pub show-to : {q : TextLocation} → m ≡ To q → z ≡ shown (f tt t q) → z ≡ shown ((p >>= f) t i)
-  unfolding _>>=_
-  show-to h k = rw (← e, h) k
-
-  pub show-stopped : {part : XbmPart} {q : TextLocation} → m ≡ Stopped part q → z ≡ refused (number part) q → z ≡ shown ((p >>= f) t i)
-  unfolding _>>=_
-  show-stopped h k = rw (← e, h) k
-
-module _ {B : Type 0} (p : Reader (List ℕ)) (f : List ℕ → Reader B) {t : List ℕ} {i : TextLocation} {later : List ℕ} {m : Token} {z : Outcome (Ended B)} (e : Got p t i later m) where
-  pub show-read : {n : ℕ} {q : TextLocation} → m ≡ Read n q → z ≡ shown (f (take n later) t q) → z ≡ shown ((p >>= f) t i)
-  unfolding _>>=_
-  show-read h k = rw (← e .answer, h) k
-
-  pub show-long : {part : XbmPart} {q : TextLocation} → m ≡ Long part q → z ≡ refused (number part) q → z ≡ shown ((p >>= f) t i)
-  unfolding _>>=_
-  show-long h k = rw (← e .answer, h) k
 
 module _ {B : Type 0} (p : Reader ℤ) (f : ℤ → Reader B) (t : List ℕ) (i : TextLocation) {m : CoordinateRead} {z : Outcome (Ended B)} (e : toldCoordinate m ≡ shown (p t i)) where
   pub show-coordinate : {n : ℤ} {q : TextLocation} → m ≡ Coordinate n q → z ≡ shown (f n t q) → z ≡ shown ((p >>= f) t i)
@@ -67,11 +42,7 @@ module _ {B : Type 0} (p : Reader (ℤ × ℤ)) (f : ℤ × ℤ → Reader B) (t
   pub show-no-spot : {x : XbmDecodeError} → m ≡ NoSpot x → z ≡ toldError x → z ≡ shown ((p >>= f) t i)
   show-no-spot {x} h k = show-error p f t i x (rw h at e) k
 
--- a value; an integer of a token; a side that must not be zero
-pub show-give : {A : Type 0} (a : A) (t : List ℕ) (i : TextLocation) {z : Outcome (Ended A)} → z ≡ accepted (ending-at a i) → z ≡ shown (give a t i)
-unfolding give
-show-give a t i e = e
-
+-- an integer of a token; a side that must not be zero
 module _ {B : Type 0} (c : ℕ) (w : List ℕ) (f : ℕ → Reader B) (t : List ℕ) (i : TextLocation) {m : Unsigned} (e : m ≡ parseU32 w) {z : Outcome (Ended B)} where
   pub show-value : {n : ℕ} → m ≡ Value n → z ≡ shown (f n t i) → z ≡ shown ((need c (unsignedOf (parseU32 w)) >>= f) t i)
   unfolding need _>>=_
@@ -113,8 +84,8 @@ module _ {A : Type 0} (c x : ℕ) (p : Reader A) (y : ℕ) (q : Reader A) (t : L
   pub show-end : r ≡ End → z ≡ refused c i → z ≡ shown (fork c x p y q t i)
   show-end m k = rw (← fork-end c x p y q t i e m refl) k
 
-pub ruleset pass = (show-to, show-stopped, show-read, show-long, show-coordinate, show-no-coordinate, show-spot, show-no-spot)
+pub ruleset pass = (show-coordinate, show-no-coordinate, show-spot, show-no-spot)
 
-pub ruleset settle = (show-give, show-value, show-bad, show-number, show-wrong, show-zero, show-positive)
+pub ruleset settle = (show-value, show-bad, show-number, show-wrong, show-zero, show-positive)
 
-pub ruleset shown·laws = (pass, settle, show-first, show-second, show-neither, show-end)
+pub ruleset shown·laws = (line·laws, pass, settle, show-first, show-second, show-neither, show-end)

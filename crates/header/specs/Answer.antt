@@ -1,21 +1,20 @@
 -- What the header's code answers, as document 01's values; and what it leaves in the lent name buffer.
-use Prim.Native.Nat.{ℕ, _+_, _≤_}
+use Prim.Native.Nat.{ℕ, _+_}
 use mathlib.Core.Path.{_≡_}
 use mathlib.Core.Option.{Option, none, some}
 use mathlib.Core.List.{List}
 use lib.ListN.{length, take}
 use lib.IntN.{ℤ}
-use Rattle.text.specs.declared.TextLocation.{TextLocation}
 use Rattle.text.specs.Place.{start}
-use Rattle.text.specs.Reader.{Result, ok, stop, bad, Reader, _>>=_, _>>_}
+use Rattle.text.specs.Reader.{Result, ok, stop, bad, Reader, _>>=_}
 use Rattle.text.specs.Outcome.{Outcome, accepted, Ended, ending-at, shown}
 use Rattle.text.specs.Ascii.{ascii}
 use Rattle.text.specs.Leaf.{give, need, fork}
-use Rattle.lexical.specs.declared.Token.{Token}
-use Rattle.lexical.specs.Token.{overlay, toldToken, sizeOf}
+use Rattle.lexical.specs.Token.{overlay}
 use Rattle.error.specs.Error.{toldError}
 use Rattle.symbol.specs.Symbol.{stored}
-use Rattle.header.specs.Header.{Head, value, unsigned, signed, positive, symbol, ending, header}
+use Rattle.lines.specs.Lines.{value, unsigned, signed, positive, defineLine}
+use Rattle.header.specs.Header.{Head, ending, header}
 use Rattle.header.specs.declared.Hotspot.{Hotspot}
 use Rattle.header.specs.declared.Hotspot.the-variants.{Absent, At}
 use Rattle.header.specs.declared.XbmHeaderData.{XbmHeaderData}
@@ -48,10 +47,6 @@ toldSpot (NoSpot e) = toldError e
 
 -- ---- the header's parts, as the code reads them
 
--- a define line whose symbol is known: its token
-unfoldable pub defineLine : ℕ → List ℕ → List ℕ → Reader (List ℕ)
-defineLine c name z = symbol c name z >> value c give
-
 -- and the coordinate that it is
 unfoldable pub coordinateLine : ℕ → List ℕ → List ℕ → Reader ℤ
 coordinateLine c name z = defineLine c name z >>= signed (c + 10)
@@ -72,11 +67,6 @@ heightOf name w = defineLine 2 name (ascii "_height") >>= λ d. unsigned 12 d >>
 
 unfoldable pub sidesOf : List ℕ → Reader Head
 sidesOf name = value 1 give >>= λ d. unsigned 11 d >>= λ v. need 21 (positive v) >>= λ w. heightOf name w
-
--- reading a token into the digits: what p reads, within them
-pub record Got (p : Reader (List ℕ)) (text : List ℕ) (place : TextLocation) (later : List ℕ) (r : Token) : Type 0 where
-  pub answer : toldToken later r ≡ p text place
-  pub fits : sizeOf r ≤ length later
 
 -- the length of the name handed back: none of a refused header
 abbrev pub nameLength : Result Head → ℕ

@@ -3,11 +3,9 @@ ghost use mathlib.Core.Bool.{true};
 ghost use mathlib.Core.Path.{_≡_};
 ghost use Prim.Native.Nat.{_+_};
 ghost use Rattle.text.specs.Outcome.{shown};
-ghost use Rattle.text.specs.Leaf.{give};
 ghost use Rattle.text.specs.Ascii.{ascii};
-ghost use Rattle.lexical.specs.Lexical.{number, told, onto};
-ghost use Rattle.header.specs.Header.{value, symbol, element, arrayLine};
-ghost use Rattle.header.specs.Answer.{hotOf, toldCoordinate, toldSpot, toldHeader, defineLine, coordinateLine, spot, endingOf, restOf, heightOf, sidesOf, Got, Headed};
+ghost use Rattle.lexical.specs.Lexical.{number};
+ghost use Rattle.header.specs.Answer.{hotOf, toldCoordinate, toldSpot, toldHeader, coordinateLine, spot, endingOf, restOf, heightOf, sidesOf, Headed};
 use error::XbmDecodeError;
 use integer::Signed;
 use integer::Unsigned;
@@ -16,12 +14,9 @@ use integer::parse_u32;
 use lexical::Passed;
 use lexical::Token;
 use lexical::XbmPart;
-use lexical::read_fixed_string;
-use lexical::read_to_newline;
-use lexical::read_until_whitespace;
-use lexical::read_whitespace_gap;
-use lexical::then_fixed;
-use lexical::then_gap;
+use lines::read_array_line;
+use lines::read_define_line;
+use lines::read_value;
 use symbol::read_width_symbol;
 use text::TextLocation;
 use text::Took;
@@ -63,56 +58,6 @@ pub enum HotspotRead {
     Refused(XbmDecodeError),
 }
 
-// A gap, an integer token, and the line's end.
-fn read_value(text: &[u8], place: TextLocation, digits: &mut [u8; 11], part: XbmPart) -> Token
-    ensures { λ r. ⌜ Got (value (number part) give) (now (text .entry)) place (now (digits .exit)) r ⌝ }
-{
-    let a = match read_whitespace_gap(text, place, part) {
-        Passed::To(p) => p,
-        Passed::Refused(q, at) => return Token::Refused(q, at),
-    };
-    match read_until_whitespace(text, a, digits, part) {
-        Token::Read(n, b) => match read_to_newline(text, b, part) {
-            Passed::To(c) => Token::Read(n, c),
-            Passed::Refused(q, at) => Token::Refused(q, at),
-        },
-        Token::Refused(q, at) => Token::Refused(q, at),
-    }
-}
-
-// `#define`, a gap, and the symbol made of the name and an ending.
-fn read_symbol(
-    text: &[u8],
-    place: TextLocation,
-    name: &[u8],
-    suffix: &[u8],
-    part: XbmPart,
-) -> Passed
-    ensures { λ r. ⌜ told r ≡ symbol (number part) (now (name .entry)) (now (suffix .entry)) (now (text .entry)) place ⌝ }
-{
-    let a = read_fixed_string(text, place, b"#define", part);
-    let b = then_gap(text, a, part);
-    let c = then_fixed(text, b, name, part);
-    then_fixed(text, c, suffix, part)
-}
-
-// A define line: its symbol, and then its integer token, which the caller parses.
-fn read_define_line(
-    text: &[u8],
-    place: TextLocation,
-    name: &[u8],
-    suffix: &[u8],
-    digits: &mut [u8; 11],
-    part: XbmPart,
-) -> Token
-    ensures { λ r. ⌜ Got (defineLine (number part) (now (name .entry)) (now (suffix .entry))) (now (text .entry)) place (now (digits .exit)) r ⌝ }
-{
-    match read_symbol(text, place, name, suffix, part) {
-        Passed::To(p) => read_value(text, p, digits, part),
-        Passed::Refused(q, at) => Token::Refused(q, at),
-    }
-}
-
 // A define line with a coordinate.
 fn read_coordinate_line(
     text: &[u8],
@@ -146,52 +91,6 @@ fn read_hotspot(text: &[u8], place: TextLocation, name: &[u8]) -> HotspotRead
         }
         CoordinateRead::Refused(e) => HotspotRead::Refused(e),
     }
-}
-
-// `char`, or `unsigned`, a gap and `char`.
-fn read_element(text: &[u8], place: TextLocation, part: XbmPart) -> Passed
-    ensures { λ r. ⌜ told r ≡ element (number part) (now (text .entry)) place ⌝ }
-{
-    match take(text, place) {
-        Took::Next(b, next) => {
-            if b == b'c' {
-                return read_fixed_string(text, place, b"char", part);
-            }
-            if b == b'u' {
-                let a = read_fixed_string(text, place, b"unsigned", part);
-                let c = then_gap(text, a, part);
-                return then_fixed(text, c, b"char", part);
-            }
-            Passed::Refused(part, next)
-        }
-        Took::End => Passed::Refused(part, place),
-    }
-}
-
-// The same after an answer, of which a refusal is passed on.
-fn then_element(text: &[u8], before: Passed, part: XbmPart) -> Passed
-    ensures { λ r. ⌜ told r ≡ onto «before» (element (number part)) (now (text .entry)) ⌝ }
-{
-    match before {
-        Passed::To(p) => read_element(text, p, part),
-        Passed::Refused(q, at) => Passed::Refused(q, at),
-    }
-}
-
-// The line that opens the array.
-fn read_array_line(text: &[u8], place: TextLocation, name: &[u8], part: XbmPart) -> Passed
-    ensures { λ r. ⌜ told r ≡ arrayLine (number part) (now (name .entry)) (now (text .entry)) place ⌝ }
-{
-    let a = read_fixed_string(text, place, b"static", part);
-    let b = then_gap(text, a, part);
-    let c = then_element(text, b, part);
-    let d = then_gap(text, c, part);
-    let e = then_fixed(text, d, name, part);
-    let f = then_fixed(text, e, b"_bits[]", part);
-    let g = then_gap(text, f, part);
-    let h = then_fixed(text, g, b"=", part);
-    let i = then_gap(text, h, part);
-    then_fixed(text, i, b"{", part)
 }
 
 // The array line, and with it the header.

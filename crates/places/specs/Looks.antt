@@ -18,7 +18,8 @@ use Rattle.text.specs.Leaf.{give, want, need, moved, scan, run, go-on, stay, ha
 use Rattle.lexical.specs.Lexical.{isLoose, fixed, gap, lineEnd, leading, fixed-local, gap-local, lineEnd-local, leading-local}
 use Rattle.lexical.specs.Token.{upTo, token, token-local}
 use Rattle.symbol.specs.Symbol.{hashDefine, endWidth, before}
-use Rattle.header.specs.Header.{value, line, side, signed, unsigned, positive, widthLine, ending, hotspot, rest as headerRest, header, array-local}
+use Rattle.lines.specs.Lines.{value, line, side, signed, unsigned, positive, widthLine, array-local}
+use Rattle.header.specs.Header.{ending, hotspot, rest as headerRest, header}
 use Rattle.image.specs.Rows.{whole-local}
 use Rattle.image.specs.Reading.{picture}
 use Rattle.grammar.specs.Lang.{Lang, Word, Lit, _·_, All, Star}

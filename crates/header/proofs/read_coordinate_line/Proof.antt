@@ -1,7 +1,7 @@
 -- `read_coordinate_line` meets its contract. A define line, and the coordinate that its token is.
 use borrow.Author.Needs.{needs}
 use Rattle.header.proofs.Told.{shown·laws}
-use Rattle.header.proofs.Laws.{size·laws}
+use Rattle.lines.proofs.Laws.{size·laws}
 use Rattle.header.specs.Answer.{coordinateLine}
 use Rattle.header.proofs.read_coordinate_line.Statement.{statement}
 use Rattle.header.proofs.read_coordinate_line.Tie as tie

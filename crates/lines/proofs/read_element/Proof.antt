@@ -1,10 +1,10 @@
 -- `read_element` meets its contract. A look at the next byte, then one row or the other.
 use Rattle.text.proofs.Reading.{fork·laws}
 use Rattle.lexical.proofs.Laws.{row·laws}
-use Rattle.header.specs.Header.{element}
+use Rattle.lines.specs.Lines.{element}
 use borrow.Author.Needs.{needs}
-use Rattle.header.proofs.read_element.Statement.{statement}
-use Rattle.header.proofs.read_element.Tie as tie
+use Rattle.lines.proofs.read_element.Statement.{statement}
+use Rattle.lines.proofs.read_element.Tie as tie
 
 take-requires : tie.Need-take-requires
 take-requires c κs = search needs

@@ -1,8 +1,8 @@
 -- `then_element` meets its contract. A refusal is passed on.
 use Rattle.lexical.proofs.Laws.{onto·laws}
 use borrow.Author.Needs.{needs}
-use Rattle.header.proofs.then_element.Statement.{statement}
-use Rattle.header.proofs.then_element.Tie as tie
+use Rattle.lines.proofs.then_element.Statement.{statement}
+use Rattle.lines.proofs.then_element.Tie as tie
 
 enum-known-before : tie.Need-enum-known-before
 enum-known-before c = search needs

@@ -1,8 +1,8 @@
 -- `read_define_line` meets its contract. The symbol, and then the token; a refusal is passed on (`define·laws`).
 use borrow.Author.Needs.{needs}
-use Rattle.header.proofs.Laws.{define·laws}
-use Rattle.header.proofs.read_define_line.Statement.{statement}
-use Rattle.header.proofs.read_define_line.Tie as tie
+use Rattle.lines.proofs.Laws.{define·laws}
+use Rattle.lines.proofs.read_define_line.Statement.{statement}
+use Rattle.lines.proofs.read_define_line.Tie as tie
 
 read-symbol-requires : tie.Need-read-symbol-requires
 read-symbol-requires c κs = search needs

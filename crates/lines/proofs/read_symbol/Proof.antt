@@ -1,9 +1,9 @@
 -- `read_symbol` meets its contract. A row of four readings.
 use Rattle.lexical.proofs.Laws.{row·laws}
-use Rattle.header.specs.Header.{symbol}
+use Rattle.lines.specs.Lines.{symbol}
 use borrow.Author.Needs.{needs}
-use Rattle.header.proofs.read_symbol.Statement.{statement}
-use Rattle.header.proofs.read_symbol.Tie as tie
+use Rattle.lines.proofs.read_symbol.Statement.{statement}
+use Rattle.lines.proofs.read_symbol.Tie as tie
 
 slice-aggregate-read-fixed-string : tie.Need-slice-aggregate-read-fixed-string
 slice-aggregate-read-fixed-string c = search needs

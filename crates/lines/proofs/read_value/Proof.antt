@@ -1,8 +1,8 @@
 -- `read_value` meets its contract. One reading after another; the token has the room of the digits.
-use Rattle.header.proofs.Laws.{value·laws}
+use Rattle.lines.proofs.Laws.{value·laws}
 use borrow.Author.Needs.{needs}
-use Rattle.header.proofs.read_value.Statement.{statement}
-use Rattle.header.proofs.read_value.Tie as tie
+use Rattle.lines.proofs.read_value.Statement.{statement}
+use Rattle.lines.proofs.read_value.Tie as tie
 
 read-whitespace-gap-requires : tie.Need-read-whitespace-gap-requires
 read-whitespace-gap-requires c κs = search needs

@@ -1,9 +1,9 @@
 -- `read_array_line` meets its contract. A row of ten readings.
 use Rattle.lexical.proofs.Laws.{row·laws}
-use Rattle.header.specs.Header.{arrayLine}
+use Rattle.lines.specs.Lines.{arrayLine}
 use borrow.Author.Needs.{needs}
-use Rattle.header.proofs.read_array_line.Statement.{statement}
-use Rattle.header.proofs.read_array_line.Tie as tie
+use Rattle.lines.proofs.read_array_line.Statement.{statement}
+use Rattle.lines.proofs.read_array_line.Tie as tie
 
 slice-aggregate-read-fixed-string : tie.Need-slice-aggregate-read-fixed-string
 slice-aggregate-read-fixed-string c = search needs
