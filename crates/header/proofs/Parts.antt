@@ -7,7 +7,8 @@ use Rattle.text.specs.Leaf.{give}
 use Rattle.symbol.specs.Symbol.{opening, widthSymbol}
 use Rattle.lines.specs.Lines.{symbol, widthLine, defineLine}
 use Rattle.header.specs.Header.{rest, header}
-use Rattle.header.specs.Answer.{coordinateLine, spot, endingOf, restOf, heightOf, sidesOf}
+use Rattle.hotspot.specs.Hotspot.{coordinateLine, spot}
+use Rattle.header.specs.Answer.{endingOf, restOf, heightOf, sidesOf}
 
 then-assoc : {A B C : Type 0} (r : Result A) (f : A → TextLocation → Result B) (g : B → TextLocation → Result C)
     → then (then r f) g ≡ then r (λ a e. then (f a e) g)

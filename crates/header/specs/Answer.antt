@@ -1,5 +1,5 @@
 -- What the header's code answers, as document 01's values; and what it leaves in the lent name buffer.
-use Prim.Native.Nat.{ℕ, _+_}
+use Prim.Native.Nat.{ℕ}
 use mathlib.Core.Path.{_≡_}
 use mathlib.Core.Option.{Option, none, some}
 use mathlib.Core.List.{List}
@@ -13,7 +13,8 @@ use Rattle.text.specs.Leaf.{give, need, fork}
 use Rattle.lexical.specs.Token.{overlay}
 use Rattle.error.specs.Error.{toldError}
 use Rattle.symbol.specs.Symbol.{stored}
-use Rattle.lines.specs.Lines.{value, unsigned, signed, positive, defineLine}
+use Rattle.lines.specs.Lines.{value, unsigned, positive, defineLine}
+use Rattle.hotspot.specs.Hotspot.{spot}
 use Rattle.header.specs.Header.{Head, ending, header}
 use Rattle.header.specs.declared.Hotspot.{Hotspot}
 use Rattle.header.specs.declared.Hotspot.the-variants.{Absent, At}
@@ -21,10 +22,6 @@ use Rattle.header.specs.declared.XbmHeaderData.{XbmHeaderData}
 use Rattle.header.specs.declared.HeaderRead.{HeaderRead}
 use Rattle.header.specs.declared.HeaderRead.the-variants.{Read, Refused}
 use Rattle.header.specs.declared.HeaderAnswer.{HeaderAnswer}
-use Rattle.header.specs.declared.CoordinateRead.{CoordinateRead}
-use Rattle.header.specs.declared.CoordinateRead.the-variants.{Coordinate, Refused as NoCoordinate}
-use Rattle.header.specs.declared.HotspotRead.{HotspotRead}
-use Rattle.header.specs.declared.HotspotRead.the-variants.{Spot, Refused as NoSpot}
 
 abbrev pub hotOf : Hotspot → Option (ℤ × ℤ)
 hotOf Absent = none
@@ -37,23 +34,7 @@ abbrev pub toldHeader : List ℕ → HeaderRead → Outcome (Ended Head)
 toldHeader name (Read d p) = accepted (ending-at (headOf name d) p)
 toldHeader name (Refused e) = toldError e
 
-abbrev pub toldCoordinate : CoordinateRead → Outcome (Ended ℤ)
-toldCoordinate (Coordinate z p) = accepted (ending-at z p)
-toldCoordinate (NoCoordinate e) = toldError e
-
-abbrev pub toldSpot : HotspotRead → Outcome (Ended (ℤ × ℤ))
-toldSpot (Spot x y p) = accepted (ending-at (x, y) p)
-toldSpot (NoSpot e) = toldError e
-
 -- ---- the header's parts, as the code reads them
-
--- and the coordinate that it is
-unfoldable pub coordinateLine : ℕ → List ℕ → List ℕ → Reader ℤ
-coordinateLine c name z = defineLine c name z >>= signed (c + 10)
-
--- the hotspot's two lines
-unfoldable pub spot : List ℕ → Reader (ℤ × ℤ)
-spot name = coordinateLine 3 name (ascii "_x_hot") >>= λ x. coordinateLine 4 name (ascii "_y_hot") >>= λ y. give (x, y)
 
 -- the array line; what follows the height line; the height line too; all that follows the width's symbol
 unfoldable pub endingOf : List ℕ → ℕ → ℕ → Option (ℤ × ℤ) → Reader Head

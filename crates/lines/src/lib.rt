@@ -1,7 +1,6 @@
 // The lines of a header whose parts are known: a define line up to its integer token, and the line that opens the array.
 ghost use mathlib.Core.Path.{_≡_};
 ghost use Rattle.text.specs.Leaf.{give};
-ghost use Rattle.text.specs.Ascii.{ascii};
 ghost use Rattle.lexical.specs.Lexical.{number, told, onto};
 ghost use Rattle.lines.specs.Lines.{value, symbol, defineLine, element, arrayLine, Got};
 use lexical::Passed;

@@ -2,7 +2,6 @@
 ghost use mathlib.Core.Path.{_≡_};
 ghost use lib.ListN.{length};
 ghost use Rattle.text.specs.Place.{start};
-ghost use Rattle.text.specs.Ascii.{ascii};
 ghost use Rattle.lexical.specs.Lexical.{told};
 ghost use Rattle.symbol.specs.Symbol.{endsWith, opening, Symboled};
 use lexical::Passed;

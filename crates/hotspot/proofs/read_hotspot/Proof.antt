@@ -1,9 +1,9 @@
 -- `read_hotspot` meets its contract. One line after the other.
-use Rattle.header.proofs.Told.{shown·laws}
-use Rattle.header.specs.Answer.{spot}
+use Rattle.hotspot.proofs.Told.{hotspot·laws}
+use Rattle.hotspot.specs.Hotspot.{spot}
 use borrow.Author.Needs.{needs}
-use Rattle.header.proofs.read_hotspot.Statement.{statement}
-use Rattle.header.proofs.read_hotspot.Tie as tie
+use Rattle.hotspot.proofs.read_hotspot.Statement.{statement}
+use Rattle.hotspot.proofs.read_hotspot.Tie as tie
 
 slice-aggregate-read-coordinate-line : tie.Need-slice-aggregate-read-coordinate-line
 slice-aggregate-read-coordinate-line c = search needs
@@ -31,15 +31,15 @@ enum-known-e-2 c = search needs
 
 returns : tie.Need-returns
 unfolding spot
-returns c = search (shown·laws, needs)
+returns c = search (hotspot·laws, needs)
 
 returns-2 : tie.Need-returns-2
 unfolding spot
-returns-2 c = search (shown·laws, needs)
+returns-2 c = search (hotspot·laws, needs)
 
 returns-3 : tie.Need-returns-3
 unfolding spot
-returns-3 c = search (shown·laws, needs)
+returns-3 c = search (hotspot·laws, needs)
 
 pub read-hotspot-spec : {M : Type 1} → statement M
 read-hotspot-spec =

@@ -1,10 +1,10 @@
 -- `read_coordinate_line` meets its contract. A define line, and the coordinate that its token is.
 use borrow.Author.Needs.{needs}
-use Rattle.header.proofs.Told.{shown·laws}
+use Rattle.hotspot.proofs.Told.{hotspot·laws}
 use Rattle.lines.proofs.Laws.{size·laws}
-use Rattle.header.specs.Answer.{coordinateLine}
-use Rattle.header.proofs.read_coordinate_line.Statement.{statement}
-use Rattle.header.proofs.read_coordinate_line.Tie as tie
+use Rattle.hotspot.specs.Hotspot.{coordinateLine}
+use Rattle.hotspot.proofs.read_coordinate_line.Statement.{statement}
+use Rattle.hotspot.proofs.read_coordinate_line.Tie as tie
 
 read-define-line-requires : tie.Need-read-define-line-requires
 read-define-line-requires c κs = search needs
@@ -32,15 +32,15 @@ enum-known-q c = search needs
 
 returns : tie.Need-returns
 unfolding coordinateLine
-returns c = search (shown·laws, needs)
+returns c = search (hotspot·laws, needs)
 
 returns-2 : tie.Need-returns-2
 unfolding coordinateLine
-returns-2 c = search (shown·laws, needs)
+returns-2 c = search (hotspot·laws, needs)
 
 returns-3 : tie.Need-returns-3
 unfolding coordinateLine
-returns-3 c = search (shown·laws, needs)
+returns-3 c = search (hotspot·laws, needs)
 
 pub read-coordinate-line-spec : {M : Type 1} → statement M
 read-coordinate-line-spec =
