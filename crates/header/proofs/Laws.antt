@@ -16,12 +16,12 @@ use Rattle.error.specs.declared.Refusal.{Refusal}
 use Rattle.error.specs.declared.Refusal.the-variants.{Placed, Unplaced}
 use Rattle.error.specs.Error.{refusalOf, toldRefusal, toldError}
 use Rattle.symbol.specs.Symbol.{Symboled}
+use Rattle.lines.proofs.Laws.{size-taken, size·laws}
 use Rattle.header.specs.Header.{Head, header}
 use Rattle.header.specs.Answer.{toldHeader, nameLength, sidesOf, Headed}
 use Rattle.header.specs.declared.XbmHeaderData.{XbmHeaderData}
 use Rattle.header.specs.declared.HeaderRead.{HeaderRead}
 use Rattle.header.specs.declared.HeaderRead.the-variants.{Read as HeaderIs, Refused}
-use Rattle.lines.proofs.Laws.{size-taken, size·laws}
 use Rattle.header.proofs.Parts.{parts}
 
 -- the length of the name, of what is told

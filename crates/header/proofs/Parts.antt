@@ -6,8 +6,8 @@ use Rattle.text.specs.Reader.{Result, ok, stop, bad, Reader, then, _>>=_}
 use Rattle.text.specs.Leaf.{give}
 use Rattle.symbol.specs.Symbol.{opening, widthSymbol}
 use Rattle.lines.specs.Lines.{symbol, widthLine, defineLine}
-use Rattle.header.specs.Header.{rest, header}
 use Rattle.hotspot.specs.Hotspot.{coordinateLine, spot}
+use Rattle.header.specs.Header.{rest, header}
 use Rattle.header.specs.Answer.{endingOf, restOf, heightOf, sidesOf}
 
 then-assoc : {A B C : Type 0} (r : Result A) (f : A → TextLocation → Result B) (g : B → TextLocation → Result C)

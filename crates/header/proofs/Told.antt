@@ -14,8 +14,8 @@ use Rattle.text.proofs.Reading.{fork-first, fork-second, fork-neither, fork-end
 use Rattle.integer.specs.declared.Unsigned.{Unsigned}
 use Rattle.integer.specs.declared.Unsigned.the-variants.{Value, Bad}
 use Rattle.integer.specs.Decimal.{parseU32, unsignedOf}
-use Rattle.lines.proofs.Told.{line·laws}
 use Rattle.lines.specs.Lines.{positive}
+use Rattle.lines.proofs.Told.{line·laws}
 use Rattle.hotspot.proofs.Told.{show-spot, show-no-spot}
 
 -- an integer of a token; a side that must not be zero

@@ -21,6 +21,7 @@ coordinateLine c name z = defineLine c name z >>= signed (c + 10)
 unfoldable pub spot : List ℕ → Reader (ℤ × ℤ)
 spot name = coordinateLine 3 name (ascii "_x_hot") >>= λ x. coordinateLine 4 name (ascii "_y_hot") >>= λ y. give (x, y)
 
+-- what is told of an answer
 abbrev pub toldCoordinate : CoordinateRead → Outcome (Ended ℤ)
 toldCoordinate (Coordinate z p) = accepted (ending-at z p)
 toldCoordinate (NoCoordinate e) = toldError e
