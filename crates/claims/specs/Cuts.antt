@@ -15,8 +15,8 @@ use Rattle.text.specs.Reader.{Result, stop, _>>_, cut-firm, cut-stop}
 use Rattle.text.specs.Leaf.{give}
 use Rattle.text.specs.Outcome.{Outcome, accepted, refused, outcome}
 use Rattle.lexical.specs.Token.{overlay}
+use Rattle.symbol.specs.Symbol.{stored}
 use Rattle.header.specs.Header.{Head, header, header-local, header-firm}
-use Rattle.header.specs.Answer.{stored}
 use Rattle.decoder.specs.Data.{tail, Log}
 use Rattle.image.specs.Cells.{painted}
 use Rattle.image.specs.Reading.{nameIn, Reading, reading}

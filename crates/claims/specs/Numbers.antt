@@ -14,7 +14,8 @@ use Rattle.text.specs.Leaf.{give, want, need, one, first, judge, Move, go-on, s
 use Rattle.lexical.specs.Lexical.{is, while, lead, byte, skip, fixed, gap, lineEnd, leading}
 use Rattle.lexical.specs.Token.{upTo, token}
 use Rattle.hex.specs.Hex.{hexv, hexDigit, hexStart, hexDigits, hexUnit}
-use Rattle.header.specs.Header.{widthLine, element, arrayLine, rest as headerRest, header}
+use Rattle.lines.specs.Lines.{widthLine, element, arrayLine}
+use Rattle.header.specs.Header.{rest as headerRest, header}
 use Rattle.decoder.specs.Data.{item, items, brace, closing, tail, trailer}
 use Rattle.image.specs.Rows.{count, ending, whole}
 

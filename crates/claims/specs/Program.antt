@@ -14,8 +14,9 @@ use Rattle.lexical.specs.Lexical.{isBlank, isLoose, byte, skip, fixed, gap, lin
 use Rattle.lexical.specs.Token.{token, span}
 use Rattle.hex.specs.Hex.{hexOf, hexv, hexDigit, isMark, hexStart, hexDigits, hexUnit}
 use Rattle.integer.specs.Decimal.{isDigit, digitsFrom}
-use Rattle.header.specs.Header.{endsWith, before, positive, widthLine, element, arrayLine, rest as restOf, opening, header}
-use Rattle.header.specs.Answer.{stored}
+use Rattle.symbol.specs.Symbol.{endsWith, before, opening, stored}
+use Rattle.lines.specs.Lines.{positive, widthLine, element, arrayLine}
+use Rattle.header.specs.Header.{rest as restOf, header}
 use Rattle.decoder.specs.Data.{item, items, brace, closing, tail, trailer, logOf}
 use Rattle.image.specs.Cells.{cell, painted}
 use Rattle.image.specs.Rows.{whole}

@@ -12,8 +12,7 @@ use Rattle.text.specs.Rest.{reach-inside}
 use Rattle.text.specs.Reader.{Result, ok, stop, bad, endByte, ahead, Placed, cut-past, cut-end}
 use Rattle.lexical.specs.Lexical.{isLoose}
 use Rattle.lexical.specs.Token.{token, token-local, span}
-use Rattle.header.specs.Header.{hashDefine, opening, opening-local, opening-mild}
-use Rattle.header.specs.Answer.{storedIn, stored}
+use Rattle.symbol.specs.Symbol.{hashDefine, opening, opening-local, opening-mild, storedIn, stored}
 use Rattle.grammar.specs.Lang.{Word, _·_}
 use Rattle.grammar.specs.Grammar.{blank, solid, Side, Define, Symbol, Mask, Header}
 use Rattle.grammar.specs.Bind.{past-byte, move}

@@ -11,7 +11,8 @@ use Rattle.text.specs.Ascii.{ascii}
 use Rattle.text.specs.Yields.{Yields, yields-bind, yields-give}
 use Rattle.text.specs.Reader.{ok, Reader, _>>=_}
 use Rattle.text.specs.Leaf.{give}
-use Rattle.header.specs.Header.{Head, element, arrayLine, ending, hotspot, rest, widthLine, header}
+use Rattle.lines.specs.Lines.{element, arrayLine, widthLine}
+use Rattle.header.specs.Header.{Head, ending, hotspot, rest, header}
 use Rattle.grammar.specs.Lang.{Lang, Word, _·_, All, Star}
 use Rattle.grammar.specs.Grammar.{solid, Side, Coordinate, Skipped, Define, Symbol, Hotspot, Array, Mask, Header}
 use Rattle.grammar.specs.Bind.{bind-case}

@@ -15,7 +15,8 @@ use Rattle.text.specs.Place.{pick}
 use Rattle.text.specs.Reader.{Reader}
 use Rattle.grammar.specs.Lang.{Lang, Word, _·_, All}
 use Rattle.grammar.specs.Grammar.{blank, solid, Digits, value, Decimal, Side, Coordinate, Define, Symbol}
-use Rattle.header.specs.Header.{before, positive, side, signed, line, hashDefine, endWidth, widthLine}
+use Rattle.symbol.specs.Symbol.{before, hashDefine, endWidth}
+use Rattle.lines.specs.Lines.{positive, side, signed, line, widthLine}
 use Rattle.grammar.specs.Tests.{both-true, number, integer, value-up, decimal-digits, integer→coordinate, coordinate→integer, before→ends, ends→before, number→decimal, decimal→number, positive-inv, positive-ok}
 use Rattle.grammar.specs.Fits.{Fits, Any, fit-token, fit-need, fit-want, fit-needed, fit-give, fit-done}
 use Rattle.grammar.specs.Pieces.{begin, begins-cat, begins-all, solid-blank, fit-fixed, fit-two, fit-gap, lineEnd-fits, lineEnd-solid, token-fits}

@@ -12,7 +12,9 @@ use Rattle.lexical.specs.Lexical.{isBlank, isLoose, byte, skip, fixed, gap, lin
 use Rattle.lexical.specs.Token.{token}
 use Rattle.hex.specs.Hex.{hexOf, hexv, hexDigit, isMark, hexStart, hexDigits, hexUnit}
 use Rattle.integer.specs.Decimal.{isDigit, digitsFrom}
-use Rattle.header.specs.Header.{rest as restOf, endsWith, before, positive, widthLine, element, arrayLine, header}
+use Rattle.symbol.specs.Symbol.{endsWith, before}
+use Rattle.lines.specs.Lines.{positive, widthLine, element, arrayLine}
+use Rattle.header.specs.Header.{rest as restOf, header}
 use Rattle.decoder.specs.Data.{item, items, brace, closing, tail}
 use Rattle.grammar.specs.Grammar.{Mask, Format}
 use Rattle.grammar.specs.Devices.{body, front, text}

@@ -1,112 +1,28 @@
--- What a step of the code says of the width's symbol and of the header.
-use Prim.Native.Nat.{ℕ, _+_, _-_, _≤_}
-use native.Mathlib.Omega.{arith}
-use mathlib.Core.Path.{_≡_, refl, sym}
+-- What a step of the code says of the header.
+use Prim.Native.Nat.{ℕ}
+use mathlib.Core.Path.{_≡_, refl}
 use mathlib.Core.List.{List}
-use mathlib.Core.Bool.{Bool, true, false}
 use lib.ListN.{length, take}
-use lib.Seq.{length-take-le, take-take}
 use Rattle.text.specs.declared.TextLocation.{TextLocation}
 use Rattle.text.specs.Place.{start}
-use Rattle.text.specs.Reader.{Result, ok, stop, bad, Reader, _>>=_, _>>_}
+use Rattle.text.specs.Reader.{Result, ok, stop, bad, _>>=_}
 use Rattle.text.specs.Outcome.{Outcome, accepted, refused, unplaced, Ended, ending-at, shown}
-use Rattle.text.specs.Leaf.{give, want}
 use Rattle.lexical.specs.declared.XbmPart.{XbmPart}
-use Rattle.lexical.specs.declared.XbmPart.the-variants.{Width}
-use Rattle.lexical.specs.declared.Passed.{Passed}
-use Rattle.lexical.specs.declared.Passed.the-variants.{To, Refused as Stopped}
 use Rattle.lexical.specs.declared.Token.{Token}
 use Rattle.lexical.specs.declared.Token.the-variants.{Read, Refused as Long}
-use Rattle.lexical.specs.Lexical.{isLoose, number, told, onto}
-use Rattle.lexical.specs.Token.{Tokened, sizeOf}
-use Rattle.text.proofs.Reading.{give-ok}
-use Rattle.lexical.proofs.Laws.{number-fits, row-first, pass-to, pass-refused}
-use Rattle.lexical.proofs.Tokens.{token-fits, token-size, token·laws}
-use Rattle.header.specs.Header.{Head, endWidth, endsWith, before, value, symbol, opening, header}
-use Rattle.header.specs.Answer.{refusalOf, toldRefusal, toldError, toldHeader, nameLength, stored, defineLine, sidesOf, widthSymbol, Symboled, Got, Headed}
-use Rattle.header.specs.declared.XbmDecodeError.{XbmDecodeError}
-use Rattle.header.specs.declared.XbmDecodeError.the-variants.{Parse, DecodeInteger}
-use Rattle.header.specs.declared.Refusal.{Refusal}
-use Rattle.header.specs.declared.Refusal.the-variants.{Placed, Unplaced}
+use Rattle.error.specs.declared.XbmDecodeError.{XbmDecodeError}
+use Rattle.error.specs.declared.XbmDecodeError.the-variants.{Parse}
+use Rattle.error.specs.declared.Refusal.{Refusal}
+use Rattle.error.specs.declared.Refusal.the-variants.{Placed, Unplaced}
+use Rattle.error.specs.Error.{refusalOf, toldRefusal, toldError}
+use Rattle.symbol.specs.Symbol.{Symboled}
+use Rattle.lines.proofs.Laws.{size-taken, size·laws}
+use Rattle.header.specs.Header.{Head, header}
+use Rattle.header.specs.Answer.{toldHeader, nameLength, sidesOf, Headed}
 use Rattle.header.specs.declared.XbmHeaderData.{XbmHeaderData}
 use Rattle.header.specs.declared.HeaderRead.{HeaderRead}
 use Rattle.header.specs.declared.HeaderRead.the-variants.{Read as HeaderIs, Refused}
-use Rattle.header.proofs.Ends.{ends-long}
 use Rattle.header.proofs.Parts.{parts}
-
--- a row that starts with the text
-pub row-start : {B : Type 0} (f : Reader B) (t : List ℕ) {z : Result B} (m : Passed) (p : Reader (Unit {0})) {i : TextLocation}
-    → i ≡ start → told m ≡ p t i → z ≡ onto m f t → z ≡ (p >> f) t start
-row-start f t m p b e k = row-first f t m p start (rw b at e) k
-
--- the width's symbol: what opens it, its token, its ending
-module _ (t lent : List ℕ) {m : Passed} (e : told m ≡ opening t start) where
-  pub symbol-refused : {part : XbmPart} {q : TextLocation} → m ≡ Stopped part q → Symboled t lent lent (Long part q)
-  unfolding widthSymbol stored _>>=_
-  symbol-refused h = record { answer = rw (← e, h); fits = omega arith; symbol = rw (← e, h) }
-
-  module _ {a : TextLocation} (h : m ≡ To a) {later : List ℕ} {r : Token} (k : Tokened isLoose 1 t a lent later r) where
-    pub symbol-long : {part : XbmPart} {q : TextLocation} → r ≡ Long part q → Symboled t lent later (Long part q)
-    unfolding widthSymbol stored _>>=_
-    symbol-long g = record { answer = rw (← e, h, ← k .answer, g); fits = omega arith; symbol = rw (← e, h) (k .stored) }
-
-    module _ {n : ℕ} {b : TextLocation} (g : r ≡ Read n b) {y : Bool} (v : y ≡ endsWith (take n later) endWidth) where
-      pub symbol-named : y ≡ true → Symboled t lent later (Read (n - 6) b)
-      unfolding widthSymbol stored before want _>>=_
-      symbol-named u =
-          let l = token-fits 1 k g in
-          record {
-            answer = rw (← e, h, ← k .answer, g, ← v, u, length-take-le n later l, take-take (n - 6) n later (omega arith));
-            fits = omega arith;
-            symbol = rw (← e, h) (k .stored);
-          }
-
-      pub symbol-other : y ≡ false → Symboled t lent later (Long Width b)
-      unfolding widthSymbol stored before want _>>=_
-      symbol-other u = record { answer = rw (← e, h, ← k .answer, g, ← v, u); fits = omega arith; symbol = rw (← e, h) (k .stored) }
-
--- a symbol that ends in `_width` has 6 bytes, at least
-pub symbol-six : {t : List ℕ} {a : TextLocation} {lent later : List ℕ} {r : Token} {n : ℕ} {b : TextLocation} {y : Bool} → Tokened isLoose 1 t a lent later r → r ≡ Read n b
-    → y ≡ endsWith (take n later) endWidth → y ≡ true → 6 ≤ n
-symbol-six k h v u = rw (token-size 1 k h) (ends-long _ endWidth v u)
-
-pub ruleset symbol·laws = (symbol-refused, symbol-long, symbol-named, symbol-other, symbol-six, token-fits, token-size)
-
--- an integer's token and the line's end
-pub ruleset value·laws = (pass-to, pass-refused, give-ok, token·laws)
-
--- a define line: its symbol, and then its token
-module _ (c : ℕ) (name z t : List ℕ) (i : TextLocation) (later : List ℕ) {m : Passed} (e : told m ≡ symbol c name z t i) where
-  pub define-to : {p : TextLocation} {r : Token} → m ≡ To p → Got (value c give) t p later r → Got (defineLine c name z) t i later r
-  unfolding defineLine _>>=_
-  define-to h k = record { answer = rw (← e, h) (k .answer); fits = k .fits }
-
-  pub define-refused : {part : XbmPart} {q : TextLocation} → m ≡ Stopped part q → Got (defineLine c name z) t i later (Long part q)
-  unfolding defineLine _>>=_
-  define-refused h = record { answer = rw (← e, h); fits = omega arith }
-
-pub ruleset define·laws = (define-to, define-refused)
-
--- what was stored is within the buffer
-module _ (m : Token) (later : List ℕ) (e : sizeOf m ≤ length later) {n : ℕ} {q : TextLocation} (h : m ≡ Read n q) where
-  pub size-fits : n ≤ length later
-  size-fits = rw h at e
-
-  pub size-taken : n ≡ length (take n later)
-  size-taken = sym (length-take-le n later size-fits)
-
-pub ruleset size·laws = (size-fits, size-taken)
-
--- ---- an error's number
-
-module _ {e : XbmDecodeError} where
-  pub refusal-parse : (part : XbmPart) {n : ℕ} {p : TextLocation} → e ≡ Parse part p → n ≡ number part → Placed n p ≡ refusalOf e
-  refusal-parse part h k = rw (h, k)
-
-  pub refusal-integer : (part : XbmPart) {n : ℕ} → e ≡ DecodeInteger part → n ≡ number part → Unplaced (n + 10) ≡ refusalOf e
-  refusal-integer part h k = rw (h, k)
-
-pub ruleset refusal·laws = (number-fits, refusal-parse, refusal-integer)
 
 -- the length of the name, of what is told
 abbrev toldLength : Outcome (Ended Head) → ℕ

@@ -4,8 +4,11 @@ use mathlib.Core.Path.{_≡_, refl, fun-ext}
 use Rattle.text.specs.declared.TextLocation.{TextLocation}
 use Rattle.text.specs.Reader.{Result, ok, stop, bad, Reader, then, _>>=_}
 use Rattle.text.specs.Leaf.{give}
-use Rattle.header.specs.Header.{symbol, widthLine, rest, header, opening}
-use Rattle.header.specs.Answer.{defineLine, coordinateLine, spot, endingOf, restOf, heightOf, sidesOf, widthSymbol}
+use Rattle.symbol.specs.Symbol.{opening, widthSymbol}
+use Rattle.lines.specs.Lines.{symbol, widthLine, defineLine}
+use Rattle.hotspot.specs.Hotspot.{coordinateLine, spot}
+use Rattle.header.specs.Header.{rest, header}
+use Rattle.header.specs.Answer.{endingOf, restOf, heightOf, sidesOf}
 
 then-assoc : {A B C : Type 0} (r : Result A) (f : A → TextLocation → Result B) (g : B → TextLocation → Result C)
     → then (then r f) g ≡ then r (λ a e. then (f a e) g)

@@ -1,129 +1,24 @@
 -- What an answer that is matched on tells of a reading that goes on.
 use Prim.Native.Nat.{ℕ}
-use native.Mathlib.Omega.{arith}
 use borrow.Author.Tests.{eq-eqb, ne-eqb}
 use mathlib.Core.Path.{_≡_, refl}
 use mathlib.Core.List.{List}
-use lib.ListN.{take}
-use lib.IntN.{ℤ}
 use Rattle.text.specs.declared.TextLocation.{TextLocation}
 use Rattle.text.specs.declared.Took.{Took}
 use Rattle.text.specs.declared.Took.the-variants.{Next, End}
 use Rattle.text.specs.Place.{tookAt}
-use Rattle.text.specs.Reader.{Result, ok, stop, bad, Reader, then, _>>=_}
-use Rattle.text.specs.Outcome.{Outcome, accepted, refused, unplaced, Ended, ending-at, shown}
-use Rattle.text.specs.Leaf.{give, need, fork}
+use Rattle.text.specs.Reader.{Reader, _>>=_}
+use Rattle.text.specs.Outcome.{Outcome, refused, unplaced, Ended, shown}
+use Rattle.text.specs.Leaf.{need, fork}
 use Rattle.text.proofs.Reading.{fork-first, fork-second, fork-neither, fork-end}
-use Rattle.lexical.specs.declared.XbmPart.{XbmPart}
-use Rattle.lexical.specs.declared.Passed.{Passed}
-use Rattle.lexical.specs.declared.Passed.the-variants.{To, Refused as Stopped}
-use Rattle.lexical.specs.declared.Token.{Token}
-use Rattle.lexical.specs.declared.Token.the-variants.{Read, Refused as Long}
-use Rattle.lexical.specs.Lexical.{number, told}
 use Rattle.integer.specs.declared.Unsigned.{Unsigned}
 use Rattle.integer.specs.declared.Unsigned.the-variants.{Value, Bad}
-use Rattle.integer.specs.declared.Signed.{Signed}
-use Rattle.integer.specs.declared.Signed.the-variants.{Number, Wrong}
-use Rattle.integer.specs.Decimal.{parseU32, parseI32, unsignedOf, signedOf}
-use Rattle.header.specs.Header.{positive}
-use Rattle.header.specs.Answer.{refusalOf, toldRefusal, toldError, toldCoordinate, toldSpot, Got}
-use Rattle.header.specs.declared.XbmDecodeError.{XbmDecodeError}
-use Rattle.header.specs.declared.Refusal.{Refusal}
-use Rattle.header.specs.declared.Refusal.the-variants.{Placed, Unplaced}
-use Rattle.header.specs.declared.CoordinateRead.{CoordinateRead}
-use Rattle.header.specs.declared.CoordinateRead.the-variants.{Coordinate, Refused as NoCoordinate}
-use Rattle.header.specs.declared.HotspotRead.{HotspotRead}
-use Rattle.header.specs.declared.HotspotRead.the-variants.{Spot, Refused as NoSpot}
+use Rattle.integer.specs.Decimal.{parseU32, unsignedOf}
+use Rattle.lines.specs.Lines.{positive}
+use Rattle.lines.proofs.Told.{line·laws}
+use Rattle.hotspot.proofs.Told.{show-spot, show-no-spot}
 
--- what is told of a reading that goes on, of what is told of its first part
-abbrev onTold : {A B : Type 0} → Outcome (Ended A) → (A → TextLocation → Outcome B) → Outcome B
-onTold (accepted (ending-at a e)) k = k a e
-onTold (refused c e) k = refused c e
-onTold (unplaced c) k = unplaced c
-
-shown-then : {A B : Type 0} (r : Result A) (k : A → TextLocation → Result B) → shown (then r k) ≡ onTold (shown r) (λ a e. shown (k a e))
-shown-then (ok a e) k = refl
-shown-then (stop c e) k = refl
-shown-then (bad c e) k = refl
-
--- an error is no acceptance
-pub error-never : {A C : Type 0} (x : XbmDecodeError) {a : A} → toldError x ≡ accepted a → C
-error-never {A} {C} x {a} = go (refusalOf x)
-  where
-    go : (r : Refusal) → toldRefusal r ≡ accepted a → C
-    go (Placed c q) w = let z : _≡_ {A = ℕ} 0 1 = cc in absurd (omega arith)
-    go (Unplaced c) w = let z : _≡_ {A = ℕ} 0 1 = cc in absurd (omega arith)
-
--- it is told alike, whatever was to be read
-module _ {A B : Type 0} (x : XbmDecodeError) {c : ℕ} where
-  pub error-placed : {p : TextLocation} → toldError {A = A} x ≡ refused c p → toldError {A = B} x ≡ refused c p
-  error-placed {p} = go (refusalOf x)
-    where
-      go : (r : Refusal) → toldRefusal {A = A} r ≡ refused c p → toldRefusal {A = B} r ≡ refused c p
-      go (Placed d q) w = cc
-      go (Unplaced d) w = let z : _≡_ {A = ℕ} 0 1 = cc in absurd (omega arith)
-
-  pub error-unplaced : toldError {A = A} x ≡ unplaced c → toldError {A = B} x ≡ unplaced c
-  error-unplaced = go (refusalOf x)
-    where
-      go : (r : Refusal) → toldRefusal {A = A} r ≡ unplaced c → toldRefusal {A = B} r ≡ unplaced c
-      go (Placed d q) w = let z : _≡_ {A = ℕ} 0 1 = cc in absurd (omega arith)
-      go (Unplaced d) w = cc
-
-on-error : {A B : Type 0} (x : XbmDecodeError) (k : A → TextLocation → Outcome B) → toldError x ≡ onTold (toldError x) k
-on-error x k = go (refusalOf x)
-  where
-    go : (r : Refusal) → toldRefusal r ≡ onTold (toldRefusal r) k
-    go (Placed c q) = refl
-    go (Unplaced c) = refl
-
-module _ {A B : Type 0} (p : Reader A) (f : A → Reader B) (t : List ℕ) (i : TextLocation) {z : Outcome (Ended B)} where
-  show-accepted : {a : A} {q : TextLocation} → accepted (ending-at a q) ≡ shown (p t i) → z ≡ shown (f a t q) → z ≡ shown ((p >>= f) t i)
-  unfolding _>>=_
-  show-accepted e k = rw (shown-then (p t i) (λ a e. f a t e), ← e) k
-
-  show-error : (x : XbmDecodeError) → toldError x ≡ shown (p t i) → z ≡ toldError x → z ≡ shown ((p >>= f) t i)
-  unfolding _>>=_
-  show-error x e k = rw (shown-then (p t i) (λ a e. f a t e), ← e, ← on-error {A = A} {B = Ended B} x (λ a e. shown (f a t e))) k
-
--- the answers, one by one
-module _ {B : Type 0} (p : Reader (Unit {0})) (f : Unit {0} → Reader B) (t : List ℕ) (i : TextLocation) {m : Passed} {z : Outcome (Ended B)} (e : told m ≡ p t i) where
-  pub show-to : {q : TextLocation} → m ≡ To q → z ≡ shown (f tt t q) → z ≡ shown ((p >>= f) t i)
-  unfolding _>>=_
-  show-to h k = rw (← e, h) k
-
-  pub show-stopped : {part : XbmPart} {q : TextLocation} → m ≡ Stopped part q → z ≡ refused (number part) q → z ≡ shown ((p >>= f) t i)
-  unfolding _>>=_
-  show-stopped h k = rw (← e, h) k
-
-module _ {B : Type 0} (p : Reader (List ℕ)) (f : List ℕ → Reader B) {t : List ℕ} {i : TextLocation} {later : List ℕ} {m : Token} {z : Outcome (Ended B)} (e : Got p t i later m) where
-  pub show-read : {n : ℕ} {q : TextLocation} → m ≡ Read n q → z ≡ shown (f (take n later) t q) → z ≡ shown ((p >>= f) t i)
-  unfolding _>>=_
-  show-read h k = rw (← e .answer, h) k
-
-  pub show-long : {part : XbmPart} {q : TextLocation} → m ≡ Long part q → z ≡ refused (number part) q → z ≡ shown ((p >>= f) t i)
-  unfolding _>>=_
-  show-long h k = rw (← e .answer, h) k
-
-module _ {B : Type 0} (p : Reader ℤ) (f : ℤ → Reader B) (t : List ℕ) (i : TextLocation) {m : CoordinateRead} {z : Outcome (Ended B)} (e : toldCoordinate m ≡ shown (p t i)) where
-  pub show-coordinate : {n : ℤ} {q : TextLocation} → m ≡ Coordinate n q → z ≡ shown (f n t q) → z ≡ shown ((p >>= f) t i)
-  show-coordinate h k = show-accepted p f t i (rw h at e) k
-
-  pub show-no-coordinate : {x : XbmDecodeError} → m ≡ NoCoordinate x → z ≡ toldError x → z ≡ shown ((p >>= f) t i)
-  show-no-coordinate {x} h k = show-error p f t i x (rw h at e) k
-
-module _ {B : Type 0} (p : Reader (ℤ × ℤ)) (f : ℤ × ℤ → Reader B) (t : List ℕ) (i : TextLocation) {m : HotspotRead} {z : Outcome (Ended B)} (e : toldSpot m ≡ shown (p t i)) where
-  pub show-spot : {x y : ℤ} {q : TextLocation} → m ≡ Spot x y q → z ≡ shown (f (x, y) t q) → z ≡ shown ((p >>= f) t i)
-  show-spot h k = show-accepted p f t i (rw h at e) k
-
-  pub show-no-spot : {x : XbmDecodeError} → m ≡ NoSpot x → z ≡ toldError x → z ≡ shown ((p >>= f) t i)
-  show-no-spot {x} h k = show-error p f t i x (rw h at e) k
-
--- a value; an integer of a token; a side that must not be zero
-pub show-give : {A : Type 0} (a : A) (t : List ℕ) (i : TextLocation) {z : Outcome (Ended A)} → z ≡ accepted (ending-at a i) → z ≡ shown (give a t i)
-unfolding give
-show-give a t i e = e
-
+-- an integer of a token; a side that must not be zero
 module _ {B : Type 0} (c : ℕ) (w : List ℕ) (f : ℕ → Reader B) (t : List ℕ) (i : TextLocation) {m : Unsigned} (e : m ≡ parseU32 w) {z : Outcome (Ended B)} where
   pub show-value : {n : ℕ} → m ≡ Value n → z ≡ shown (f n t i) → z ≡ shown ((need c (unsignedOf (parseU32 w)) >>= f) t i)
   unfolding need _>>=_
@@ -132,15 +27,6 @@ module _ {B : Type 0} (c : ℕ) (w : List ℕ) (f : ℕ → Reader B) (t : List 
   pub show-bad : m ≡ Bad → z ≡ unplaced c → z ≡ shown ((need c (unsignedOf (parseU32 w)) >>= f) t i)
   unfolding need _>>=_
   show-bad h k = rw (← e, h) k
-
-module _ (c : ℕ) (w : List ℕ) (t : List ℕ) (i : TextLocation) {m : Signed} (e : m ≡ parseI32 w) {z : Outcome (Ended ℤ)} where
-  pub show-number : {n : ℤ} → m ≡ Number n → z ≡ accepted (ending-at n i) → z ≡ shown (need c (signedOf (parseI32 w)) t i)
-  unfolding need
-  show-number h k = rw (← e, h) k
-
-  pub show-wrong : m ≡ Wrong → z ≡ unplaced c → z ≡ shown (need c (signedOf (parseI32 w)) t i)
-  unfolding need
-  show-wrong h k = rw (← e, h) k
 
 module _ {B : Type 0} (c n : ℕ) (f : ℕ → Reader B) (t : List ℕ) (i : TextLocation) {z : Outcome (Ended B)} where
   pub show-zero : n ≡ 0 → z ≡ unplaced c → z ≡ shown ((need c (positive n) >>= f) t i)
@@ -165,8 +51,4 @@ module _ {A : Type 0} (c x : ℕ) (p : Reader A) (y : ℕ) (q : Reader A) (t : L
   pub show-end : r ≡ End → z ≡ refused c i → z ≡ shown (fork c x p y q t i)
   show-end m k = rw (← fork-end c x p y q t i e m refl) k
 
-pub ruleset pass = (show-to, show-stopped, show-read, show-long, show-coordinate, show-no-coordinate, show-spot, show-no-spot)
-
-pub ruleset settle = (show-give, show-value, show-bad, show-number, show-wrong, show-zero, show-positive)
-
-pub ruleset shown·laws = (pass, settle, show-first, show-second, show-neither, show-end)
+pub ruleset shown·laws = (line·laws, show-spot, show-no-spot, show-value, show-bad, show-zero, show-positive, show-first, show-second, show-neither, show-end)

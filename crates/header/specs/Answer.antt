@@ -1,49 +1,27 @@
--- What the header's code answers, as document 01's numbers and values; and what it leaves in the lent name buffer.
-use Prim.Native.Nat.{ℕ, _+_, _≤_}
+-- What the header's code answers, as document 01's values; and what it leaves in the lent name buffer.
+use Prim.Native.Nat.{ℕ}
 use mathlib.Core.Path.{_≡_}
 use mathlib.Core.Option.{Option, none, some}
-use mathlib.Core.List.{List, []}
+use mathlib.Core.List.{List}
 use lib.ListN.{length, take}
 use lib.IntN.{ℤ}
-use Rattle.text.specs.declared.TextLocation.{TextLocation}
 use Rattle.text.specs.Place.{start}
-use Rattle.text.specs.Reader.{Result, ok, stop, bad, endOf, Reader, _>>=_, _>>_}
-use Rattle.text.specs.Outcome.{Outcome, accepted, refused, unplaced, Ended, ending-at, shown}
-use Rattle.lexical.specs.Lexical.{isLoose, number}
+use Rattle.text.specs.Reader.{Result, ok, stop, bad, Reader, _>>=_}
+use Rattle.text.specs.Outcome.{Outcome, accepted, Ended, ending-at, shown}
 use Rattle.text.specs.Ascii.{ascii}
-use Rattle.text.specs.Leaf.{give, want, need, fork}
-use Rattle.lexical.specs.declared.Token.{Token}
-use Rattle.lexical.specs.Token.{token, span, overlay, toldToken, sizeOf}
-use Rattle.header.specs.Header.{Head, endWidth, before, value, unsigned, signed, positive, symbol, ending, opening, header}
-use Rattle.header.specs.declared.XbmDecodeError.{XbmDecodeError}
-use Rattle.header.specs.declared.XbmDecodeError.the-variants.{Parse, DecodeInteger, ZeroWidth, ZeroHeight}
-use Rattle.header.specs.declared.Refusal.{Refusal}
-use Rattle.header.specs.declared.Refusal.the-variants.{Placed, Unplaced}
+use Rattle.text.specs.Leaf.{give, need, fork}
+use Rattle.lexical.specs.Token.{overlay}
+use Rattle.error.specs.Error.{toldError}
+use Rattle.symbol.specs.Symbol.{stored}
+use Rattle.lines.specs.Lines.{value, unsigned, positive, defineLine}
+use Rattle.hotspot.specs.Hotspot.{spot}
+use Rattle.header.specs.Header.{Head, ending, header}
 use Rattle.header.specs.declared.Hotspot.{Hotspot}
 use Rattle.header.specs.declared.Hotspot.the-variants.{Absent, At}
 use Rattle.header.specs.declared.XbmHeaderData.{XbmHeaderData}
 use Rattle.header.specs.declared.HeaderRead.{HeaderRead}
 use Rattle.header.specs.declared.HeaderRead.the-variants.{Read, Refused}
 use Rattle.header.specs.declared.HeaderAnswer.{HeaderAnswer}
-use Rattle.header.specs.declared.CoordinateRead.{CoordinateRead}
-use Rattle.header.specs.declared.CoordinateRead.the-variants.{Coordinate, Refused as NoCoordinate}
-use Rattle.header.specs.declared.HotspotRead.{HotspotRead}
-use Rattle.header.specs.declared.HotspotRead.the-variants.{Spot, Refused as NoSpot}
-
--- a refusal's number, by document 01, and its place where one is told
-abbrev pub refusalOf : XbmDecodeError → Refusal
-refusalOf (Parse part p) = Placed (number part) p
-refusalOf (DecodeInteger part) = Unplaced (number part + 10)
-refusalOf ZeroWidth = Unplaced 21
-refusalOf ZeroHeight = Unplaced 22
-
--- what is told of it
-abbrev pub toldRefusal : {A : Type 0} → Refusal → Outcome A
-toldRefusal (Placed c p) = refused c p
-toldRefusal (Unplaced c) = unplaced c
-
-abbrev pub toldError : {A : Type 0} → XbmDecodeError → Outcome A
-toldError e = toldRefusal (refusalOf e)
 
 abbrev pub hotOf : Hotspot → Option (ℤ × ℤ)
 hotOf Absent = none
@@ -56,36 +34,7 @@ abbrev pub toldHeader : List ℕ → HeaderRead → Outcome (Ended Head)
 toldHeader name (Read d p) = accepted (ending-at (headOf name d) p)
 toldHeader name (Refused e) = toldError e
 
-abbrev pub toldCoordinate : CoordinateRead → Outcome (Ended ℤ)
-toldCoordinate (Coordinate z p) = accepted (ending-at z p)
-toldCoordinate (NoCoordinate e) = toldError e
-
-abbrev pub toldSpot : HotspotRead → Outcome (Ended (ℤ × ℤ))
-toldSpot (Spot x y p) = accepted (ending-at (x, y) p)
-toldSpot (NoSpot e) = toldError e
-
--- the symbol's bytes that reading a text stores: those taken from where the symbol starts, none where nothing opens it
-abbrev pub storedIn : ℕ → List ℕ → Result (Unit {0}) → List ℕ
-storedIn limit t (ok a i) = span t i (endOf (token isLoose 1 limit t i))
-storedIn limit t (stop c e) = []
-storedIn limit t (bad c e) = []
-
-unfoldable pub stored : ℕ → List ℕ → List ℕ
-stored limit t = storedIn limit t (opening t start)
-
 -- ---- the header's parts, as the code reads them
-
--- a define line whose symbol is known: its token
-unfoldable pub defineLine : ℕ → List ℕ → List ℕ → Reader (List ℕ)
-defineLine c name z = symbol c name z >> value c give
-
--- and the coordinate that it is
-unfoldable pub coordinateLine : ℕ → List ℕ → List ℕ → Reader ℤ
-coordinateLine c name z = defineLine c name z >>= signed (c + 10)
-
--- the hotspot's two lines
-unfoldable pub spot : List ℕ → Reader (ℤ × ℤ)
-spot name = coordinateLine 3 name (ascii "_x_hot") >>= λ x. coordinateLine 4 name (ascii "_y_hot") >>= λ y. give (x, y)
 
 -- the array line; what follows the height line; the height line too; all that follows the width's symbol
 unfoldable pub endingOf : List ℕ → ℕ → ℕ → Option (ℤ × ℤ) → Reader Head
@@ -99,21 +48,6 @@ heightOf name w = defineLine 2 name (ascii "_height") >>= λ d. unsigned 12 d >>
 
 unfoldable pub sidesOf : List ℕ → Reader Head
 sidesOf name = value 1 give >>= λ d. unsigned 11 d >>= λ v. need 21 (positive v) >>= λ w. heightOf name w
-
--- the name in the width's symbol
-unfoldable pub widthSymbol : ℕ → Reader (List ℕ)
-widthSymbol limit = opening >> token isLoose 1 limit >>= λ s. want 1 (before endWidth s)
-
--- reading the width's symbol into a lent buffer: the name in it, within the buffer; and the buffer later
-pub record Symboled (text lent later : List ℕ) (r : Token) : Type 0 where
-  pub answer : toldToken later r ≡ widthSymbol (length lent) text start
-  pub fits : sizeOf r ≤ length later
-  pub symbol : later ≡ overlay (stored (length lent) text) lent
-
--- reading a token into the digits: what p reads, within them
-pub record Got (p : Reader (List ℕ)) (text : List ℕ) (place : TextLocation) (later : List ℕ) (r : Token) : Type 0 where
-  pub answer : toldToken later r ≡ p text place
-  pub fits : sizeOf r ≤ length later
 
 -- the length of the name handed back: none of a refused header
 abbrev pub nameLength : Result Head → ℕ

@@ -13,8 +13,9 @@ use Rattle.text.specs.Leaf.{give, want, need, one, run, fork}
 use Rattle.lexical.specs.Lexical.{isBlank, isLoose, byte, skip, fixed, gap, lineEnd, leading}
 use Rattle.lexical.specs.Token.{token, span}
 use Rattle.integer.specs.Decimal.{digitsFrom, isDigit}
-use Rattle.header.specs.Header.{Head, endsWith, before, positive, widthLine, element, arrayLine, rest as restLines, header, opening}
-use Rattle.header.specs.Answer.{stored}
+use Rattle.symbol.specs.Symbol.{endsWith, before, opening, stored}
+use Rattle.lines.specs.Lines.{positive, widthLine, element, arrayLine}
+use Rattle.header.specs.Header.{Head, rest as restLines, header}
 
 -- a name buffer's length and a text; what is told of its header, and the bytes stored in the buffer
 record Row : Type 0 where

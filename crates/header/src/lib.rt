@@ -1,70 +1,22 @@
 // The XBM header, up to and including the first opening brace. The name is stored in a lent buffer, the rest comes back by value.
-ghost use mathlib.Core.Bool.{true};
 ghost use mathlib.Core.Path.{_≡_};
-ghost use Prim.Native.Nat.{_+_};
-ghost use lib.ListN.{length};
-ghost use Rattle.text.specs.Place.{start};
 ghost use Rattle.text.specs.Outcome.{shown};
-ghost use Rattle.text.specs.Leaf.{give};
-ghost use Rattle.text.specs.Ascii.{ascii};
-ghost use Rattle.lexical.specs.Lexical.{number, told, onto};
-ghost use Rattle.header.specs.Header.{endsWith, opening, value, symbol, element, arrayLine};
-ghost use Rattle.header.specs.Answer.{refusalOf, hotOf, toldCoordinate, toldSpot, toldHeader, defineLine, coordinateLine, spot, endingOf, restOf, heightOf, sidesOf, Symboled, Got, Headed};
-use integer::Signed;
+ghost use Rattle.header.specs.Answer.{hotOf, toldHeader, endingOf, restOf, heightOf, sidesOf, Headed};
+use error::XbmDecodeError;
+use hotspot::HotspotRead;
+use hotspot::read_hotspot;
 use integer::Unsigned;
-use integer::parse_i32;
 use integer::parse_u32;
 use lexical::Passed;
 use lexical::Token;
 use lexical::XbmPart;
-use lexical::part_number;
-use lexical::read_fixed_string;
-use lexical::read_to_newline;
-use lexical::read_until_whitespace;
-use lexical::read_whitespace_gap;
-use lexical::skip_non_define_lines;
-use lexical::then_fixed;
-use lexical::then_gap;
+use lines::read_array_line;
+use lines::read_define_line;
+use lines::read_value;
+use symbol::read_width_symbol;
 use text::TextLocation;
 use text::Took;
-use text::beginning;
 use text::take;
-
-// A limit on the length of a #define symbol (name and `_width`), for callers that have no other: the name buffer's length is the limit.
-pub const MAX_IDENTIFIER_LENGTH: usize = 256;
-
-// A name buffer for such callers, of document 01's 256 bytes.
-pub fn name_buffer() -> [u8; MAX_IDENTIFIER_LENGTH]
-    ensures { λ r. ⌜ length r ≡ 256 ⌝ }
-{
-    [0u8; MAX_IDENTIFIER_LENGTH]
-}
-
-// Error that can occur while parsing an XBM file.
-pub enum XbmDecodeError {
-    Parse(XbmPart, TextLocation),
-    DecodeInteger(XbmPart),
-    ZeroWidth,
-    ZeroHeight,
-}
-
-// A refusal as document 01 tells it: its number, and its place where one is told.
-pub enum Refusal {
-    Placed(u32, TextLocation),
-    Unplaced(u32),
-}
-
-// The number of an error, and its place.
-pub fn refusal_of(e: XbmDecodeError) -> Refusal
-    ensures { λ r. ⌜ r ≡ refusalOf e ⌝ }
-{
-    match e {
-        XbmDecodeError::Parse(part, p) => Refusal::Placed(part_number(part), p),
-        XbmDecodeError::DecodeInteger(part) => Refusal::Unplaced(part_number(part) + 10),
-        XbmDecodeError::ZeroWidth => Refusal::Unplaced(21),
-        XbmDecodeError::ZeroHeight => Refusal::Unplaced(22),
-    }
-}
 
 pub enum Hotspot {
     Absent,
@@ -88,197 +40,6 @@ pub enum HeaderRead {
 pub struct HeaderAnswer {
     pub header: HeaderRead,
     pub name: usize,
-}
-
-// A coordinate of the hotspot read, or the refusal.
-pub enum CoordinateRead {
-    Coordinate(i32, TextLocation),
-    Refused(XbmDecodeError),
-}
-
-// Both coordinates read, or the refusal.
-pub enum HotspotRead {
-    Spot(i32, i32, TextLocation),
-    Refused(XbmDecodeError),
-}
-
-// Whether `bytes` ends with `suffix`.
-fn ends_with(bytes: &[u8], suffix: &[u8]) -> bool
-    ensures { λ r. ⌜ r ≡ endsWith (now (bytes .entry)) (now (suffix .entry)) ⌝ }
-{
-    if bytes.len() < suffix.len() {
-        return false;
-    }
-    let start = bytes.len() - suffix.len();
-    let mut i = 0;
-    while i < suffix.len() {
-        if bytes[start + i] == suffix[i] {
-            i += 1;
-        } else {
-            return false;
-        }
-    }
-    true
-}
-
-// What precedes the width's symbol: leading lines, `#define`, a gap.
-fn read_opening(text: &[u8]) -> Passed
-    ensures { λ r. ⌜ told r ≡ opening (now (text .entry)) start ⌝ }
-{
-    let a = skip_non_define_lines(text, beginning(), XbmPart::Width);
-    let b = then_fixed(text, a, b"#define", XbmPart::Width);
-    then_gap(text, b, XbmPart::Width)
-}
-
-// The width's symbol, stored in `name`; the answer has the length of the name in it.
-fn read_width_symbol(text: &[u8], name: &mut [u8]) -> Token
-    ensures { λ r. ⌜ Symboled (now (text .entry)) (now (name .entry)) (now (name .exit)) r ⌝ }
-{
-    let a = match read_opening(text) {
-        Passed::To(p) => p,
-        Passed::Refused(q, at) => return Token::Refused(q, at),
-    };
-    match read_until_whitespace(text, a, name, XbmPart::Width) {
-        Token::Read(n, b) => {
-            if ends_with(&name[..n], b"_width") {
-                Token::Read(n - 6, b)
-            } else {
-                Token::Refused(XbmPart::Width, b)
-            }
-        }
-        Token::Refused(q, at) => Token::Refused(q, at),
-    }
-}
-
-// A gap, an integer token, and the line's end.
-fn read_value(text: &[u8], place: TextLocation, digits: &mut [u8; 11], part: XbmPart) -> Token
-    ensures { λ r. ⌜ Got (value (number part) give) (now (text .entry)) place (now (digits .exit)) r ⌝ }
-{
-    let a = match read_whitespace_gap(text, place, part) {
-        Passed::To(p) => p,
-        Passed::Refused(q, at) => return Token::Refused(q, at),
-    };
-    match read_until_whitespace(text, a, digits, part) {
-        Token::Read(n, b) => match read_to_newline(text, b, part) {
-            Passed::To(c) => Token::Read(n, c),
-            Passed::Refused(q, at) => Token::Refused(q, at),
-        },
-        Token::Refused(q, at) => Token::Refused(q, at),
-    }
-}
-
-// `#define`, a gap, and the symbol made of the name and an ending.
-fn read_symbol(
-    text: &[u8],
-    place: TextLocation,
-    name: &[u8],
-    suffix: &[u8],
-    part: XbmPart,
-) -> Passed
-    ensures { λ r. ⌜ told r ≡ symbol (number part) (now (name .entry)) (now (suffix .entry)) (now (text .entry)) place ⌝ }
-{
-    let a = read_fixed_string(text, place, b"#define", part);
-    let b = then_gap(text, a, part);
-    let c = then_fixed(text, b, name, part);
-    then_fixed(text, c, suffix, part)
-}
-
-// A define line: its symbol, and then its integer token, which the caller parses.
-fn read_define_line(
-    text: &[u8],
-    place: TextLocation,
-    name: &[u8],
-    suffix: &[u8],
-    digits: &mut [u8; 11],
-    part: XbmPart,
-) -> Token
-    ensures { λ r. ⌜ Got (defineLine (number part) (now (name .entry)) (now (suffix .entry))) (now (text .entry)) place (now (digits .exit)) r ⌝ }
-{
-    match read_symbol(text, place, name, suffix, part) {
-        Passed::To(p) => read_value(text, p, digits, part),
-        Passed::Refused(q, at) => Token::Refused(q, at),
-    }
-}
-
-// A define line with a coordinate.
-fn read_coordinate_line(
-    text: &[u8],
-    place: TextLocation,
-    name: &[u8],
-    suffix: &[u8],
-    part: XbmPart,
-) -> CoordinateRead
-    ensures { λ r. ⌜ toldCoordinate r ≡ shown (coordinateLine (number part) (now (name .entry)) (now (suffix .entry)) (now (text .entry)) place) ⌝ }
-{
-    let mut digits = [0u8; 11];
-    match read_define_line(text, place, name, suffix, &mut digits, part) {
-        Token::Read(n, next) => match parse_i32(&digits[..n]) {
-            Signed::Number(v) => CoordinateRead::Coordinate(v, next),
-            Signed::Wrong => CoordinateRead::Refused(XbmDecodeError::DecodeInteger(part)),
-        },
-        Token::Refused(q, at) => CoordinateRead::Refused(XbmDecodeError::Parse(q, at)),
-    }
-}
-
-// The hotspot's two lines.
-fn read_hotspot(text: &[u8], place: TextLocation, name: &[u8]) -> HotspotRead
-    ensures { λ r. ⌜ toldSpot r ≡ shown (spot (now (name .entry)) (now (text .entry)) place) ⌝ }
-{
-    match read_coordinate_line(text, place, name, b"_x_hot", XbmPart::HotspotX) {
-        CoordinateRead::Coordinate(x, a) => {
-            match read_coordinate_line(text, a, name, b"_y_hot", XbmPart::HotspotY) {
-                CoordinateRead::Coordinate(y, b) => HotspotRead::Spot(x, y, b),
-                CoordinateRead::Refused(e) => HotspotRead::Refused(e),
-            }
-        }
-        CoordinateRead::Refused(e) => HotspotRead::Refused(e),
-    }
-}
-
-// `char`, or `unsigned`, a gap and `char`.
-fn read_element(text: &[u8], place: TextLocation, part: XbmPart) -> Passed
-    ensures { λ r. ⌜ told r ≡ element (number part) (now (text .entry)) place ⌝ }
-{
-    match take(text, place) {
-        Took::Next(b, next) => {
-            if b == b'c' {
-                return read_fixed_string(text, place, b"char", part);
-            }
-            if b == b'u' {
-                let a = read_fixed_string(text, place, b"unsigned", part);
-                let c = then_gap(text, a, part);
-                return then_fixed(text, c, b"char", part);
-            }
-            Passed::Refused(part, next)
-        }
-        Took::End => Passed::Refused(part, place),
-    }
-}
-
-// The same after an answer, of which a refusal is passed on.
-fn then_element(text: &[u8], before: Passed, part: XbmPart) -> Passed
-    ensures { λ r. ⌜ told r ≡ onto «before» (element (number part)) (now (text .entry)) ⌝ }
-{
-    match before {
-        Passed::To(p) => read_element(text, p, part),
-        Passed::Refused(q, at) => Passed::Refused(q, at),
-    }
-}
-
-// The line that opens the array.
-fn read_array_line(text: &[u8], place: TextLocation, name: &[u8], part: XbmPart) -> Passed
-    ensures { λ r. ⌜ told r ≡ arrayLine (number part) (now (name .entry)) (now (text .entry)) place ⌝ }
-{
-    let a = read_fixed_string(text, place, b"static", part);
-    let b = then_gap(text, a, part);
-    let c = then_element(text, b, part);
-    let d = then_gap(text, c, part);
-    let e = then_fixed(text, d, name, part);
-    let f = then_fixed(text, e, b"_bits[]", part);
-    let g = then_gap(text, f, part);
-    let h = then_fixed(text, g, b"=", part);
-    let i = then_gap(text, h, part);
-    then_fixed(text, i, b"{", part)
 }
 
 // The array line, and with it the header.

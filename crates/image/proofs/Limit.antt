@@ -12,15 +12,16 @@ use Rattle.text.specs.Place.{start}
 use Rattle.text.specs.Reader.{Result, ok, stop, bad, then, _>>=_}
 use Rattle.text.specs.Leaf.{give}
 use Rattle.text.specs.Outcome.{unplaced, outcome, Ended, shown}
-use Rattle.header.specs.declared.XbmDecodeError.{XbmDecodeError}
-use Rattle.header.specs.declared.Refusal.{Refusal}
-use Rattle.header.specs.declared.Refusal.the-variants.{Unplaced}
+use Rattle.error.specs.declared.XbmDecodeError.{XbmDecodeError}
+use Rattle.error.specs.declared.Refusal.{Refusal}
+use Rattle.error.specs.declared.Refusal.the-variants.{Unplaced}
+use Rattle.error.proofs.Told.{error-never, error-placed, error-unplaced}
+use Rattle.error.specs.Error.{refusalOf, toldError}
 use Rattle.header.specs.declared.XbmHeaderData.{XbmHeaderData}
 use Rattle.header.specs.declared.HeaderRead.the-variants.{Read as HeadRead, Refused as HeadRefused}
 use Rattle.header.specs.declared.HeaderAnswer.{HeaderAnswer}
-use Rattle.header.proofs.Told.{error-never, error-placed, error-unplaced}
 use Rattle.header.specs.Header.{Head, header}
-use Rattle.header.specs.Answer.{refusalOf, headOf, toldError, nameLength, Headed}
+use Rattle.header.specs.Answer.{headOf, nameLength, Headed}
 use Rattle.decoder.specs.Data.{logOf}
 use Rattle.image.specs.declared.ImageRead.{ImageRead}
 use Rattle.image.specs.declared.ImageRead.the-variants.{Read as ImageIs, Refused as ImageRefused, DimensionMismatch}

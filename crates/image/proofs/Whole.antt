@@ -15,14 +15,17 @@ use Rattle.text.specs.Leaf.{give, need}
 use Rattle.text.specs.Yields.{Yields, yields-from, yields-bind, yields-give, yields-fork}
 use Rattle.text.specs.Outcome.{Outcome, accepted, refused, unplaced, outcome, Ended, ending-at, shown}
 use Rattle.lexical.specs.declared.XbmPart.{XbmPart}
-use Rattle.header.specs.declared.XbmDecodeError.{XbmDecodeError}
-use Rattle.header.specs.declared.XbmDecodeError.the-variants.{Parse}
+use Rattle.error.specs.declared.XbmDecodeError.{XbmDecodeError}
+use Rattle.error.specs.declared.XbmDecodeError.the-variants.{Parse}
+use Rattle.error.proofs.Told.{error-never, error-placed, error-unplaced}
+use Rattle.error.specs.Error.{toldError}
+use Rattle.symbol.specs.Symbol.{stored}
+use Rattle.lines.specs.Lines.{positive, widthLine}
 use Rattle.header.specs.declared.XbmHeaderData.{XbmHeaderData}
 use Rattle.header.specs.declared.HeaderRead.the-variants.{Read as HeadRead, Refused as HeadRefused}
 use Rattle.header.specs.declared.HeaderAnswer.{HeaderAnswer}
-use Rattle.header.proofs.Told.{error-never, error-placed, error-unplaced}
-use Rattle.header.specs.Header.{Head, positive, rest, widthLine, header}
-use Rattle.header.specs.Answer.{headOf, toldError, nameLength, stored, Headed}
+use Rattle.header.specs.Header.{Head, rest, header}
+use Rattle.header.specs.Answer.{headOf, nameLength, Headed}
 use Rattle.image.specs.declared.Rows.{Rows}
 use Rattle.image.specs.declared.Rows.the-variants.{Done, Refused as RowsRefused, Mismatch}
 use Rattle.image.specs.declared.ImageRead.{ImageRead}

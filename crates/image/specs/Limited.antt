@@ -10,10 +10,12 @@ use Rattle.text.specs.Place.{pick, start}
 use Rattle.text.specs.Reader.{Result, ok, stop, bad}
 use Rattle.text.specs.Outcome.{Outcome, accepted, refused, unplaced, outcome}
 use Rattle.lexical.specs.Token.{overlay}
+use Rattle.error.specs.Error.{refusalOf, toldRefusal}
+use Rattle.error.specs.declared.Refusal.the-variants.{Unplaced}
+use Rattle.symbol.specs.Symbol.{stored}
 use Rattle.header.specs.declared.XbmHeaderData.{XbmHeaderData}
 use Rattle.header.specs.Header.{Head, header}
-use Rattle.header.specs.Answer.{refusalOf, toldRefusal, headOf, stored}
-use Rattle.header.specs.declared.Refusal.the-variants.{Unplaced}
+use Rattle.header.specs.Answer.{headOf}
 use Rattle.decoder.specs.Data.{logOf}
 use Rattle.image.specs.Cells.{painted}
 use Rattle.image.specs.Rows.{count, whole}

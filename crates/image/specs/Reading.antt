@@ -10,9 +10,11 @@ use Rattle.text.specs.Reader.{Result, ok, stop, bad, Reader, _>>=_}
 use Rattle.text.specs.Leaf.{give}
 use Rattle.text.specs.Outcome.{Outcome, accepted, unplaced, outcome}
 use Rattle.lexical.specs.Token.{overlay}
+use Rattle.error.specs.Error.{toldError}
+use Rattle.symbol.specs.Symbol.{stored}
 use Rattle.header.specs.declared.XbmHeaderData.{XbmHeaderData}
 use Rattle.header.specs.Header.{Head, header}
-use Rattle.header.specs.Answer.{headOf, toldError, stored}
+use Rattle.header.specs.Answer.{headOf}
 use Rattle.decoder.specs.Data.{logOf}
 use Rattle.image.specs.Cells.{painted}
 use Rattle.image.specs.Rows.{count, whole}

@@ -12,12 +12,13 @@ use borrow.Author.Tests.{lt-ltb, le-ltb}
 use Rattle.text.specs.Ascii.{ascii}
 use Rattle.text.specs.declared.TextLocation.{TextLocation}
 use Rattle.text.specs.Outcome.{refused, unplaced}
-use Rattle.header.specs.declared.Refusal.{Refusal}
-use Rattle.header.specs.declared.Refusal.the-variants.{Placed, Unplaced}
+use Rattle.error.specs.declared.Refusal.{Refusal}
+use Rattle.error.specs.declared.Refusal.the-variants.{Placed, Unplaced}
+use Rattle.error.specs.Error.{toldRefusal}
 use Rattle.header.specs.declared.XbmHeaderData.{XbmHeaderData}
 use Rattle.header.specs.declared.Hotspot.{Hotspot}
 use Rattle.header.specs.declared.Hotspot.the-variants.{Absent, At}
-use Rattle.header.specs.Answer.{toldRefusal, headOf, hotOf}
+use Rattle.header.specs.Answer.{headOf, hotOf}
 use Rattle.image.specs.Ink.{inkOf}
 use Rattle.image.specs.declared.LimitedRead.the-variants.{Read, Refused as NotRead}
 use Rattle.image.specs.declared.LimitedAnswer.{LimitedAnswer}

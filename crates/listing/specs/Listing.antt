@@ -10,8 +10,9 @@ use Rattle.text.specs.Ascii.{ascii}
 use Rattle.text.specs.declared.TextLocation.{TextLocation}
 use Rattle.text.specs.Place.{pick}
 use Rattle.text.specs.Outcome.{Outcome, accepted, refused, unplaced}
+use Rattle.error.specs.Error.{toldRefusal}
 use Rattle.header.specs.Header.{Head}
-use Rattle.header.specs.Answer.{toldRefusal, headOf}
+use Rattle.header.specs.Answer.{headOf}
 use Rattle.image.specs.Ink.{inkOf}
 use Rattle.image.specs.Reading.{Reading}
 use Rattle.image.specs.Limited.{cellsOf, limited}

@@ -1,12 +1,13 @@
 // The listing of a mask: what the program prints, made of a text in lent buffers.
 ghost use mathlib.Core.Path.{_≡_};
 ghost use mathlib.Core.List.{[]};
-ghost use Rattle.header.specs.Answer.{toldRefusal, headOf, hotOf};
+ghost use Rattle.error.specs.Error.{toldRefusal};
+ghost use Rattle.header.specs.Answer.{headOf, hotOf};
 ghost use Rattle.text.specs.Outcome.{refused, unplaced};
 ghost use Rattle.print.specs.Output.{output, puts};
 ghost use Rattle.listing.specs.Listing.{fieldText, placeText, pairText, hotText, sidesText, hotspotText, inkText, acceptedText, printed, answerText, Answered, Lists};
+use error::Refusal;
 use header::Hotspot;
-use header::Refusal;
 use header::XbmHeaderData;
 use image::LimitedRead;
 use image::picture_ink;

@@ -10,14 +10,15 @@ use lib.Dec.{ltb}
 use borrow.Author.Tests.{ltb-true, ltb-false}
 use Rattle.text.specs.Reader.{Result, ok, stop, bad}
 use Rattle.text.specs.Outcome.{Outcome, accepted, refused, unplaced, Ended, ending-at, shown}
-use Rattle.header.specs.declared.XbmDecodeError.{XbmDecodeError}
-use Rattle.header.specs.declared.Refusal.{Refusal}
-use Rattle.header.specs.declared.Refusal.the-variants.{Placed, Unplaced}
+use Rattle.error.specs.declared.XbmDecodeError.{XbmDecodeError}
+use Rattle.error.specs.declared.Refusal.{Refusal}
+use Rattle.error.specs.declared.Refusal.the-variants.{Placed, Unplaced}
+use Rattle.error.specs.Error.{refusalOf, toldRefusal, toldError}
 use Rattle.header.specs.declared.HeaderRead.{HeaderRead}
 use Rattle.header.specs.declared.HeaderRead.the-variants.{Read, Refused}
 use Rattle.header.specs.declared.HeaderAnswer.{HeaderAnswer}
 use Rattle.header.specs.Header.{Head}
-use Rattle.header.specs.Answer.{refusalOf, toldRefusal, toldHeader, toldError, nameLength, Headed}
+use Rattle.header.specs.Answer.{toldHeader, nameLength, Headed}
 use Rattle.name.specs.Parted.{handed, headerFor, laterBuffer, Stored, Parted}
 
 -- ---- a part that is no longer than the buffer

@@ -6,8 +6,9 @@ use lib.ListN.{length, take, drop}
 use Rattle.text.specs.Place.{start}
 use Rattle.text.specs.Reader.{Result, ok, stop, bad}
 use Rattle.lexical.specs.Token.{overlay}
+use Rattle.symbol.specs.Symbol.{stored}
 use Rattle.header.specs.Header.{Head, header}
-use Rattle.header.specs.Answer.{stored, nameLength}
+use Rattle.header.specs.Answer.{nameLength}
 
 -- the name handed back: an accepted header's, and none of a refused one
 abbrev pub handed : Result Head → List ℕ

@@ -15,7 +15,8 @@ use Rattle.text.specs.Reader.{ok, stop, _>>=_}
 use Rattle.text.specs.Leaf.{give, one, first as firstOf, fork, forkOf, choose}
 use Rattle.text.specs.Outcome.{refused}
 use Rattle.lexical.specs.Lexical.{when, byte, fixed}
-use Rattle.header.specs.Header.{Head, arrayLine, rest}
+use Rattle.lines.specs.Lines.{arrayLine}
+use Rattle.header.specs.Header.{Head, rest}
 use Rattle.image.specs.Reading.{reading}
 use lib.IntN.{ℤ}
 use Rattle.grammar.specs.Bind.{bind-ok}

@@ -11,7 +11,7 @@ use Rattle.text.specs.Reader.{Result, ok, stop, bad, then, Reader, _>>=_, Same,
 use Rattle.text.specs.Leaf.{give}
 use Rattle.lexical.specs.Lexical.{isLoose, lineEnd}
 use Rattle.lexical.specs.Token.{token, token-local}
-use Rattle.header.specs.Header.{hashDefine}
+use Rattle.symbol.specs.Symbol.{hashDefine}
 use Rattle.grammar.specs.Lang.{Lang, Word, _·_, All}
 use Rattle.grammar.specs.Grammar.{blank, solid, Define}
 use Rattle.grammar.specs.Exact.{start-rest}

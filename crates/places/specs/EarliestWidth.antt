@@ -17,7 +17,8 @@ use Rattle.text.specs.Leaf.{give, want}
 use Rattle.text.specs.Outcome.{refused}
 use Rattle.lexical.specs.Lexical.{isBlank, isLoose, byte, skip, fixed, gap, leading, locals}
 use Rattle.lexical.specs.Token.{token}
-use Rattle.header.specs.Header.{hashDefine, endWidth, before, opening, opening-local, line-laws}
+use Rattle.symbol.specs.Symbol.{hashDefine, endWidth, before, opening, opening-local}
+use Rattle.lines.specs.Lines.{line-laws}
 use Rattle.image.specs.Reading.{reading}
 use Rattle.grammar.specs.Lang.{Lang, Word, Lit, _·_, All, Many, Some, Star}
 use Rattle.grammar.specs.Grammar.{blank, solid, Gap, Skipped, Define, Symbol}

@@ -17,7 +17,9 @@ use Rattle.text.specs.Reader.{stop, Reader, _>>=_}
 use Rattle.text.specs.Leaf.{give, want, need, scan, run}
 use Rattle.lexical.specs.Lexical.{isLoose, leading}
 use Rattle.lexical.specs.Token.{upTo, token}
-use Rattle.header.specs.Header.{hashDefine, endWidth, before, value, line, side, signed, unsigned, positive, widthLine, Head, header}
+use Rattle.symbol.specs.Symbol.{hashDefine, endWidth, before}
+use Rattle.lines.specs.Lines.{value, line, side, signed, unsigned, positive, widthLine}
+use Rattle.header.specs.Header.{Head, header}
 use Rattle.image.specs.Reading.{picture, reading}
 use Rattle.grammar.specs.Lang.{Lang, Word, Lit, _·_, All, Star}
 use Rattle.grammar.specs.Grammar.{blank, space, solid, Gap, Symbol, Skipped, Side, Coordinate, Define}

@@ -17,7 +17,9 @@ use Rattle.text.specs.Reader.{Reader, _>>=_, Local, bind-local}
 use Rattle.text.specs.Leaf.{give, want, need, moved, scan, run, go-on, stay, halt, give-local, want-local, need-local, fork-local}
 use Rattle.lexical.specs.Lexical.{isLoose, fixed, gap, lineEnd, leading, fixed-local, gap-local, lineEnd-local, leading-local}
 use Rattle.lexical.specs.Token.{upTo, token, token-local}
-use Rattle.header.specs.Header.{hashDefine, endWidth, before, value, line, side, signed, unsigned, positive, widthLine, ending, hotspot, rest as headerRest, header, array-local}
+use Rattle.symbol.specs.Symbol.{hashDefine, endWidth, before}
+use Rattle.lines.specs.Lines.{value, line, side, signed, unsigned, positive, widthLine, array-local}
+use Rattle.header.specs.Header.{ending, hotspot, rest as headerRest, header}
 use Rattle.image.specs.Rows.{whole-local}
 use Rattle.image.specs.Reading.{picture}
 use Rattle.grammar.specs.Lang.{Lang, Word, Lit, _·_, All, Star}

@@ -11,7 +11,8 @@ use Rattle.text.specs.Leaf.{give, fork}
 use Rattle.lexical.specs.Lexical.{is, fixed, gap, lineEnd, isBlank, isLoose, firms}
 use Rattle.lexical.specs.Token.{token}
 use Rattle.hex.specs.Hex.{hexv, hexOf, hexDigit, hexStart, hexDigits, hexUnit, isMark}
-use Rattle.header.specs.Header.{hashDefine, element, arrayLine, line-laws}
+use Rattle.symbol.specs.Symbol.{hashDefine}
+use Rattle.lines.specs.Lines.{element, arrayLine, line-laws}
 use Rattle.decoder.specs.Data.{item, items, brace, closing, tail}
 use Rattle.grammar.specs.Lang.{All}
 use Rattle.grammar.specs.Grammar.{solid}

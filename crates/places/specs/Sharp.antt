@@ -13,7 +13,7 @@ use Rattle.text.specs.Reader.{Result, ok, stop, bad, endOf, Reader, then, _>>=_
 use Rattle.text.specs.Leaf.{give, need, one, first, judge, go-on, stay, moved, scan, run, fork, forkOf, choose, eot, endIf, Alike, heads, alike, give-local}
 use Rattle.lexical.specs.Lexical.{is, while, lead, byte, skip, fixed, gap, lineEnd, leading, locals, byte-local, fixed-local}
 use Rattle.hex.specs.Hex.{hexv, hexDigit, hexStart, hexDigits, hexUnit, hexUnit-local, hexDigits-local, hexDigit-local}
-use Rattle.header.specs.Header.{element, arrayLine, line-laws}
+use Rattle.lines.specs.Lines.{element, arrayLine, line-laws}
 use Rattle.decoder.specs.Data.{item, items, brace, closing, tail, trailer, item-local, items-local, closing-local, trailer-local, brace-local}
 use Rattle.image.specs.Rows.{count, ending, whole}
 

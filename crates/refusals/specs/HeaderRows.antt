@@ -14,7 +14,8 @@ use Rattle.text.specs.Reader.{Result, ok, stop, bad, then, Reader, _>>=_, _>>_}
 use Rattle.text.specs.Leaf.{give, need}
 use Rattle.text.specs.Outcome.{Outcome, refused, unplaced, outcome}
 use Rattle.lexical.specs.Lexical.{locals, milds, leading}
-use Rattle.header.specs.Header.{Head, line-laws, side, positive, widthLine, element, arrayLine, rest, header}
+use Rattle.lines.specs.Lines.{line-laws, side, positive, widthLine, element, arrayLine}
+use Rattle.header.specs.Header.{Head, rest, header}
 use Rattle.image.specs.Rows.{whole}
 use Rattle.image.specs.Reading.{picture, reading}
 use Rattle.grammar.specs.Lang.{Lang, Word, _·_, All, Star}

@@ -14,7 +14,9 @@ use Rattle.text.specs.Reader.{Result, ok, Reader, _>>=_, _>>_}
 use Rattle.text.specs.Leaf.{give, want, need}
 use Rattle.lexical.specs.Lexical.{isLoose, fixed, gap, lineEnd, leading}
 use Rattle.lexical.specs.Token.{token}
-use Rattle.header.specs.Header.{Head, hashDefine, endWidth, before, value, line, side, unsigned, positive, widthLine, rest, header}
+use Rattle.symbol.specs.Symbol.{hashDefine, endWidth, before}
+use Rattle.lines.specs.Lines.{value, line, side, unsigned, positive, widthLine}
+use Rattle.header.specs.Header.{Head, rest, header}
 use Rattle.grammar.specs.Lang.{Lang, Word, _·_, All, Many, Some, Star}
 use Rattle.grammar.specs.Grammar.{blank, solid, Gap, Skipped, Define, Symbol}
 use Rattle.grammar.specs.Bind.{bind-case, bind-ok, past-append, move}

@@ -16,8 +16,7 @@ use Rattle.text.specs.Reader.{Result, ok, stop, bad, endOf}
 use Rattle.text.specs.Leaf.{scan, moved, stay, halt, go-on, run}
 use Rattle.lexical.specs.Lexical.{isLoose}
 use Rattle.lexical.specs.Token.{upTo, token, span, overlay}
-use Rattle.header.specs.Header.{hashDefine, opening}
-use Rattle.header.specs.Answer.{storedIn, stored}
+use Rattle.symbol.specs.Symbol.{hashDefine, opening, storedIn, stored}
 use Rattle.image.specs.Reading.{reading}
 use Rattle.grammar.specs.Lang.{_·_, All, Some}
 use Rattle.grammar.specs.Grammar.{blank, space, solid, Gap}

@@ -14,7 +14,9 @@ use Rattle.lexical.specs.Lexical.{isBlank, isLoose, byte, skip, fixed, gap, lin
 use Rattle.lexical.specs.Token.{token, span}
 use Rattle.hex.specs.Hex.{hexOf, hexv, hexDigit, isMark, hexStart, hexDigits, hexUnit}
 use Rattle.integer.specs.Decimal.{isDigit, digitsFrom}
-use Rattle.header.specs.Header.{endsWith, before, positive, widthLine, element, arrayLine, rest as restLines, header}
+use Rattle.symbol.specs.Symbol.{endsWith, before}
+use Rattle.lines.specs.Lines.{positive, widthLine, element, arrayLine}
+use Rattle.header.specs.Header.{rest as restLines, header}
 use Rattle.decoder.specs.Data.{item, items, brace, closing, tail, trailer}
 use Rattle.image.specs.Rows.{whole}
 use Rattle.image.specs.Reading.{picture, reading}

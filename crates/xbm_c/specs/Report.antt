@@ -9,12 +9,13 @@ use Rattle.text.specs.declared.TextLocation.{TextLocation}
 use Rattle.text.specs.Place.{start, nowhere}
 use Rattle.text.specs.Outcome.{Outcome, accepted, refused, unplaced, Ended, ending-at, shown}
 use Rattle.lexical.specs.Token.{overlay}
-use Rattle.header.specs.declared.Refusal.{Refusal}
-use Rattle.header.specs.declared.Refusal.the-variants.{Placed, Unplaced}
+use Rattle.error.specs.declared.Refusal.{Refusal}
+use Rattle.error.specs.declared.Refusal.the-variants.{Placed, Unplaced}
+use Rattle.symbol.specs.Symbol.{stored}
 use Rattle.header.specs.declared.Hotspot.{Hotspot}
 use Rattle.header.specs.declared.Hotspot.the-variants.{Absent, At}
 use Rattle.header.specs.Header.{Head, header}
-use Rattle.header.specs.Answer.{stored, nameLength}
+use Rattle.header.specs.Answer.{nameLength}
 use Rattle.image.specs.Reading.{reading}
 use Rattle.xbm_c.specs.declared.Summary.{Summary}
 

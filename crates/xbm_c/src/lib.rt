@@ -9,12 +9,12 @@ ghost use Rattle.xbm_c.specs.Report.{refusal, ofRefusal, ofHeader, ofIma
 use decoder::NextByte;
 use decoder::XbmStreamDecoder;
 use decoder::next_byte;
+use error::Refusal;
+use error::refusal_of;
 use header::HeaderAnswer;
 use header::HeaderRead;
 use header::Hotspot;
-use header::Refusal;
 use header::read_xbm_header;
-use header::refusal_of;
 use image::ImageAnswer;
 use image::ImageRead;
 use image::read_image;

@@ -2,11 +2,11 @@
 ghost use Prim.Native.Nat.{_≤_};
 ghost use lib.ListN.{length};
 ghost use Rattle.xbm_list.specs.Program.{ListsInput};
-use header::MAX_IDENTIFIER_LENGTH;
-use header::name_buffer;
 use input::Input;
 use input::read_input;
 use listing::list;
+use symbol::MAX_IDENTIFIER_LENGTH;
+use symbol::name_buffer;
 
 // The limits of document 01: bytes of a text, cells of a picture.
 const TEXT_LIMIT: usize = 65536;

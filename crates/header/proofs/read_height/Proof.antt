@@ -1,7 +1,7 @@
 -- `read_height` meets its contract. The height line, its side, and what follows.
 use borrow.Author.Needs.{needs}
 use Rattle.header.proofs.Told.{shown·laws}
-use Rattle.header.proofs.Laws.{size·laws}
+use Rattle.lines.proofs.Laws.{size·laws}
 use Rattle.header.specs.Answer.{heightOf}
 use Rattle.header.proofs.read_height.Statement.{statement}
 use Rattle.header.proofs.read_height.Tie as tie

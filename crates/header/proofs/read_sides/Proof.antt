@@ -1,7 +1,7 @@
 -- `read_sides` meets its contract. The width, and what follows its line.
 use borrow.Author.Needs.{needs}
 use Rattle.header.proofs.Told.{shown·laws}
-use Rattle.header.proofs.Laws.{size·laws}
+use Rattle.lines.proofs.Laws.{size·laws}
 use Rattle.header.specs.Answer.{sidesOf}
 use Rattle.header.proofs.read_sides.Statement.{statement}
 use Rattle.header.proofs.read_sides.Tie as tie

@@ -1,0 +1,2 @@
+-- The definitions of `error`, by module.
+pub mod Error

@@ -1,0 +1,2 @@
+-- The definitions of `hotspot`, by module.
+pub mod Hotspot

@@ -1,0 +1,2 @@
+-- The definitions and laws of `lines`, by module.
+pub mod Lines

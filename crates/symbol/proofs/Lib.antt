@@ -1,0 +1,3 @@
+-- What the proofs of `symbol` share, by module.
+pub mod Ends
+pub mod Laws

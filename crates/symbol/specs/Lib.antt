@@ -1,0 +1,2 @@
+-- The definitions and laws of `symbol`, by module.
+pub mod Symbol
