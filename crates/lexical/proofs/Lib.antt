@@ -1,4 +1,3 @@
 -- What the proofs of `lexical` share, by module.
 pub mod Laws
 pub mod Tokens
-pub mod Lines

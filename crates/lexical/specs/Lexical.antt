@@ -85,19 +85,6 @@ gap c = byte c isBlank >> skip isBlank
 unfoldable pub lineEnd : ℕ → Reader (Unit {0})
 lineEnd c = skip isBlank >> byte c (is 10)
 
--- the bytes before the first newline
-abbrev pub lineOf : List ℕ → List ℕ
-lineOf [] = []
-lineOf (b ∷ l) = pick (eqb b 10) [] (b ∷ lineOf l)
-
--- any byte but a newline
-unfoldable pub inLine : ℕ → Bool
-inLine b = pick (eqb b 10) false true
-
--- the rest of a line, with its newline
-unfoldable pub lineRest : ℕ → Reader (Unit {0})
-lineRest c = skip inLine >> byte c (is 10)
-
 -- whether a define line starts with byte b; fresh: b starts a line
 abbrev pub starts : Bool → ℕ → Bool
 starts true b = eqb b 35

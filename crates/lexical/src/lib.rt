@@ -1,18 +1,10 @@
 // The lexical readers: each takes bytes at a place, and answers what it read and the place after it, or a refusal with its place.
-ghost use mathlib.Core.Bool.{true};
 ghost use mathlib.Core.Path.{_≡_};
-ghost use Prim.Native.Nat.{_+_};
-ghost use lib.ListN.{length, drop};
 ghost use Rattle.text.specs.Reader.{ok};
-ghost use Rattle.lexical.specs.Lexical.{isBlank, isLoose, spaceOf, number, told, onto, toldByte, anyByte, skip, gap, fixed, lineEnd, lineOf, lineRest, leading};
+ghost use Rattle.lexical.specs.Lexical.{isBlank, isLoose, spaceOf, number, told, onto, toldByte, anyByte, skip, gap, fixed, lineEnd};
 ghost use Rattle.lexical.specs.Token.{Tokened};
-use text::Peeked;
 use text::TextLocation;
 use text::Took;
-use text::along;
-use text::has_left;
-use text::past_line;
-use text::peek;
 use text::take;
 
 // The part of the file in which a rule is broken.
@@ -199,59 +191,6 @@ pub fn then_gap(text: &[u8], before: Passed, part: XbmPart) -> Passed
     match before {
         Passed::To(p) => read_whitespace_gap(text, p, part),
         Passed::Refused(q, at) => Passed::Refused(q, at),
-    }
-}
-
-// The first newline at or after `from`, or the end.
-fn line_end(text: &[u8], from: usize) -> usize
-    ensures { λ r. ⌜ r ≡ from + length (lineOf (drop from (now (text .entry)))) ⌝ }
-{
-    let mut i = from;
-    while i < text.len() {
-        if text[i] == b'\n' {
-            return i;
-        }
-        i += 1;
-    }
-    i
-}
-
-// The rest of a line, with its newline.
-fn skip_line(text: &[u8], place: TextLocation, part: XbmPart) -> Passed
-    ensures { λ r. ⌜ told r ≡ lineRest (number part) (now (text .entry)) place ⌝ }
-{
-    if has_left(text, place, 1) {
-        let from = place.byte.0 as usize;
-        let end = line_end(text, from);
-        let size = (end - from) as u64;
-        if end < text.len() {
-            return Passed::To(past_line(place, size));
-        }
-        return Passed::Refused(part, along(place, size));
-    }
-    Passed::Refused(part, place)
-}
-
-// Skip whole lines, up to the first that begins with `#`.
-pub fn skip_non_define_lines(text: &[u8], place: TextLocation, part: XbmPart) -> Passed
-    ensures { λ r. ⌜ told r ≡ leading (number part) true (now (text .entry)) place ⌝ }
-{
-    let mut at = place;
-    loop {
-        match peek(text, at) {
-            Peeked::Found(b) => {
-                if b == b'#' {
-                    return Passed::To(at);
-                }
-            }
-            Peeked::Nothing => return Passed::Refused(part, at),
-        }
-        match skip_line(text, at, part) {
-            Passed::To(next) => {
-                at = next;
-            }
-            Passed::Refused(q, end) => return Passed::Refused(q, end),
-        }
     }
 }
 

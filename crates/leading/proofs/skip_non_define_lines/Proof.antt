@@ -1,13 +1,13 @@
--- `lexical::skip_non_define_lines` meets its contract: the loop keeps `Inv-loop`, and each way on is a law (`lines·laws`).
+-- `leading::skip_non_define_lines` meets its contract: the loop keeps `Inv-loop`, and each way on is a law (`lines·laws`).
 use borrow.Author.Needs.{needs}
 use mathlib.Core.Path.{_≡_, refl}
 use mathlib.Core.Bool.{true}
 use lib.ListN.{length}
 use Rattle.text.specs.Place.{rest}
 use Rattle.lexical.specs.Lexical.{number, leading}
-use Rattle.lexical.proofs.Lines.{lines·laws}
-use Rattle.lexical.proofs.skip_non_define_lines.Statement.{statement}
-use Rattle.lexical.proofs.skip_non_define_lines.Tie as tie
+use Rattle.leading.proofs.Lines.{lines·laws}
+use Rattle.leading.proofs.skip_non_define_lines.Statement.{statement}
+use Rattle.leading.proofs.skip_non_define_lines.Tie as tie
 
 abbrev Inv-loop : tie.InvT-loop
 Inv-loop text part at₀ at = leading (number part) true text at ≡ leading (number part) true text at₀

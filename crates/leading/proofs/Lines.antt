@@ -20,10 +20,11 @@ use Rattle.text.specs.Rest.{Sound, after-rest, newlines}
 use Rattle.text.specs.PlaceLaws.{sound-rest, left-inside, left-none, along-past, line-past}
 use Rattle.text.specs.Reader.{Result, ok, stop, bad, then, Reader, _>>=_, _>>_}
 use Rattle.text.specs.Leaf.{one, run, scan, Move, go-on, stay, moved, judge}
 use Rattle.lexical.specs.declared.XbmPart.{XbmPart}
 use Rattle.lexical.specs.declared.Passed.{Passed}
 use Rattle.lexical.specs.declared.Passed.the-variants.{To, Refused}
-use Rattle.lexical.specs.Lexical.{number, told, when, is, byte, while, skip, lineOf, inLine, lineRest, starts, lead, leading}
+use Rattle.lexical.specs.Lexical.{number, told, when, is, byte, while, skip, starts, lead, leading}
+use Rattle.leading.specs.Line.{lineOf, inLine, lineRest}
 
 -- ---- where a line ends
 

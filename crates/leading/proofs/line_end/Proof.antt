@@ -1,12 +1,12 @@
--- `lexical::line_end` meets its contract: the loop keeps `Inv-loop`, and each way on is a law (`end·laws`).
+-- `leading::line_end` meets its contract: the loop keeps `Inv-loop`, and each way on is a law (`end·laws`).
 use borrow.Author.Needs.{needs}
 use Prim.Native.Nat.{_+_, _-_}
 use mathlib.Core.Path.{_≡_, refl}
 use lib.ListN.{length, drop}
-use Rattle.lexical.specs.Lexical.{lineOf}
-use Rattle.lexical.proofs.Lines.{end·laws}
-use Rattle.lexical.proofs.line_end.Statement.{statement}
-use Rattle.lexical.proofs.line_end.Tie as tie
+use Rattle.leading.specs.Line.{lineOf}
+use Rattle.leading.proofs.Lines.{end·laws}
+use Rattle.leading.proofs.line_end.Statement.{statement}
+use Rattle.leading.proofs.line_end.Tie as tie
 
 abbrev Inv-loop : tie.InvT-loop
 Inv-loop text from i₀ i = i + length (lineOf (drop i text)) ≡ from + length (lineOf (drop from text))

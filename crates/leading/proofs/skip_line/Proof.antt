@@ -1,8 +1,8 @@
--- `lexical::skip_line` meets its contract: each return is a law (`line·laws`).
+-- `leading::skip_line` meets its contract: each return is a law (`line·laws`).
 use borrow.Author.Needs.{needs}
-use Rattle.lexical.proofs.Lines.{line·laws}
-use Rattle.lexical.proofs.skip_line.Statement.{statement}
-use Rattle.lexical.proofs.skip_line.Tie as tie
+use Rattle.leading.proofs.Lines.{line·laws}
+use Rattle.leading.proofs.skip_line.Statement.{statement}
+use Rattle.leading.proofs.skip_line.Tie as tie
 
 has-left-requires : tie.Need-has-left-requires
 has-left-requires c κs = search needs

@@ -1,0 +1,2 @@
+-- The laws of `leading`, by module.
+pub mod Lines

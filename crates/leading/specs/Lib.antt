@@ -1,0 +1,2 @@
+-- The definitions of `leading`, by module.
+pub mod Line
