@@ -3,13 +3,13 @@ use mathlib.Core.Path.{_≡_, refl, sym, ap, _∙_}
 use Prim.Native.Nat.{ℕ, zero, suc, _+_, _-_, _*_, _/_, _^_, _≤_, _<_, min}
 use native.Mathlib.Omega.{arith}
 use native.Mathlib.Decide.{decLt}
-use native.Mathlib.Nat.{suc-mul, mul-comm, mul-le-mul-right, div-mul-le-self}
+use native.Mathlib.Nat.{suc-mul, mul-comm, mul-le-mul-right, div-zero, div-mul-le-self}
 use mir.Syntax.{w64}
 use mir.Val.{Fits}
 use mathlib.Core.Option.{none}
 use mathlib.Core.Bool.{Bool, true, false}
 use mathlib.Core.List.{List, [], _∷_, _++_, append-assoc, append-nil}
-use lib.ListN.{length, getD}
+use lib.ListN.{length, getD, take, drop}
 use lib.Dec.{eqb, ltb}
 use borrow.Author.Tests.{eq-eqb, ne-eqb, lt-ltb, le-ltb}
 use Rattle.text.specs.declared.TextLocation.{TextLocation}
@@ -29,9 +29,9 @@ use Rattle.image.specs.declared.Rows.{Rows}
 use Rattle.image.specs.declared.Rows.the-variants.{Done, Refused, Mismatch}
 use Rattle.decoder.specs.Step.{rowBytes}
 use Rattle.image.specs.Cells.{cell, painted}
-use Rattle.image.specs.Stores.{dab}
+use Rattle.image.specs.Stores.{dab, unpacked}
 use Rattle.image.specs.Rows.{toldRows, count, ending, whole, Filled}
-use Rattle.image.proofs.Stores.{length-dab}
+use Rattle.image.proofs.Stores.{length-dab, dab-part}
 use Rattle.image.proofs.Paint.{length-more, paint-step, painted-all}
 
 -- ---- one data byte more, of the log and of the reading
@@ -85,13 +85,25 @@ count-is w h n = mul-comm (rowBytes w) (min (n / w) h)
 abbrev after-rows : ℕ → ℕ → ℕ → List ℕ → Reader (List ℕ)
 after-rows w h n = ending (eqb (n / w) h) (ltb (n / w) h) (eqb (count w h n) 0)
 
+-- ---- the whole rows of n cells
+
+-- none where w is 0
+pub rows-none : (n w : ℕ) → w ≡ 0 → 0 ≡ n / w
+rows-none n w h = rw (h, div-zero)
+
+-- so w is not 0 where there is one
+wide : (y n w : ℕ) → y < n / w → 0 < w
+wide y n zero l = absurd (omega (arith, rows-none n 0 refl))
+wide y n (suc w) l = omega arith
+
 -- ---- what holds at byte j of row y: x cells of the row, which starts at cell `row`, are done
 
-pub record Going (w h : ℕ) (t : List ℕ) (i₀ : TextLocation) (lent p : List ℕ) (i : TextLocation) (f : Bool) (y row x : ℕ) : Type 0 where
+pub record Going (w h rows : ℕ) (t : List ℕ) (i₀ : TextLocation) (lent p : List ℕ) (i : TextLocation) (f : Bool) (y row x : ℕ) : Type 0 where
   pub done : Log
   pub j : ℕ
+  pub whole-rows : rows ≡ length lent / w
   pub even : x ≡ 8 * j
-  pub inside : x < w
+  pub inside : 0 < w → x < w
   pub above : y ≤ min (length lent / w) h
   pub base : row ≡ y * w
   pub size : length p ≡ length lent
@@ -103,14 +115,15 @@ pub record Going (w h : ℕ) (t : List ℕ) (i₀ : TextLocation) (lent p : List
   pub fresh : f ≡ eqb (length done) 0
   pub left : (items (count w h (length lent) - length done) f >>= λ l. after-rows w h (length lent) (values done ++ l)) t i ≡ whole w h (length lent) t i₀
 
-module _ (w h : ℕ) (t : List ℕ) (i₀ : TextLocation) (lent : List ℕ) where
-  pub going-start : (w ≡ 0 → ⊥) → (h ≡ 0 → ⊥) → length lent < 2 ^ 64 → Going w h t i₀ lent lent i₀ true 0 0 0
+module _ (w h rows : ℕ) (t : List ℕ) (i₀ : TextLocation) (lent : List ℕ) where
+  pub going-start : rows ≡ length lent / w → length lent < 2 ^ 64 → Going w h rows t i₀ lent lent i₀ true 0 0 0
   unfolding whole cell
-  going-start a b k = record {
+  going-start e k = record {
     done = [];
     j = 0;
+    whole-rows = e;
     even = refl;
-    inside = omega arith;
+    inside = λ l. l;
     above = omega arith;
     base = omega arith;
     size = refl;
@@ -123,25 +136,42 @@ module _ (w h : ℕ) (t : List ℕ) (i₀ : TextLocation) (lent : List ℕ) wher
     left = let z : count w h (length lent) - 0 ≡ count w h (length lent) = omega arith in rw z;
   }
 
-  module _ (p : List ℕ) (i : TextLocation) (f : Bool) (y row x : ℕ) (g : Going w h t i₀ lent p i f y row x) where
+  module _ (p : List ℕ) (i : TextLocation) (f : Bool) (y row x : ℕ) (g : Going w h rows t i₀ lent p i f y row x) where
     -- a whole row is left
     below : y < min (length lent / w) h → y * rowBytes w + rowBytes w ≤ count w h (length lent)
     below l = omega (arith, mul-le-mul-right (rowBytes w) l, suc-mul y (rowBytes w), count-is w h (length lent))
 
-    room : y < length lent / w → row + w ≤ length p
-    room l = omega (arith, mul-le-mul-right w l, suc-mul y w, div-mul-le-self (length lent) w, g .base, g .size)
+    -- row y is one of the buffer's
+    module _ (l : y < rows) where
+      one-more : y < length lent / w
+      one-more = omega (arith, g .whole-rows)
 
-    pub start-fits : y < length lent / w → Fits w64 (row + x)
-    start-fits l = record { fits = omega (arith, room l, g .size, g .fits, g .inside) }
+      in-row : x < w
+      in-row = g .inside (wide y (length lent) w one-more)
 
-    pub next-fits : y < length lent / w → Fits w64 (row + w)
-    next-fits l = record { fits = omega (arith, room l, g .size, g .fits) }
+      room : row + w ≤ length p
+      room = omega (arith, mul-le-mul-right w one-more, suc-mul y w, div-mul-le-self (length lent) w, g .base, g .size)
 
-    pub eight-inside : y < length lent / w → 8 < w - x → row + x + 8 ≤ length p
-    eight-inside l k = omega (arith, room l)
+      pub left-fits : x ≤ w
+      left-fits = omega (arith, in-row)
 
-    pub rest-inside : y < length lent / w → row + x + (w - x) ≤ length p
-    rest-inside l = omega (arith, room l, g .inside)
+      pub start-fits : Fits w64 (row + x)
+      start-fits = record { fits = omega (arith, room, g .size, g .fits, in-row) }
+
+      pub next-fits : Fits w64 (row + w)
+      next-fits = record { fits = omega (arith, room, g .size, g .fits) }
+
+      pub eight-inside : 8 < w - x → row + x + 8 ≤ length p
+      eight-inside k = omega (arith, room)
+
+      pub eight-fits : 8 < w - x → Fits w64 (row + x + 8)
+      eight-fits k = record { fits = omega (arith, room, g .size, g .fits) }
+
+      pub rest-inside : row + x + (w - x) ≤ length p
+      rest-inside = omega (arith, room, in-row)
+
+      pub rest-fits : Fits w64 (row + x + (w - x))
+      rest-fits = record { fits = omega (arith, room, in-row, g .size, g .fits) }
 
     -- no row is left
     over : y ≡ min (length lent / w) h → count w h (length lent) - length (g .done) ≡ 0
@@ -165,18 +195,18 @@ module _ (w h : ℕ) (t : List ℕ) (i₀ : TextLocation) (lent : List ℕ) wher
 
     -- ---- a data byte was read, and a row is left for it
 
-    module _ {r : ByteRead} {v : ℕ} {q : TextLocation} (e : toldByte r ≡ item f t i) (m : r ≡ Got v q) (hy : y < h) (hr : y < length lent / w) where
+    module _ {r : ByteRead} {v : ℕ} {q : TextLocation} (e : toldByte r ≡ item f t i) (m : r ≡ Got v q) (hy : y < h) (hr : y < rows) where
       got : ok v q ≡ item f t i
       got = rw m at e
 
       less : length (g .done) < count w h (length lent)
-      less = omega (arith, below (omega arith), g .long, g .even, g .inside)
+      less = omega (arith, below (omega (arith, one-more hr)), g .long, g .even, in-row hr)
 
       further : Log
       further = g .done ++ (v, q) ∷ []
 
       step : (u n : ℕ) (y′ row′ x′ j′ : ℕ) → n ≡ min 8 (w - x) → x′ ≡ 8 * j′ → x′ < w → y′ ≤ min (length lent / w) h → row′ ≡ y′ * w
-          → suc (length (g .done)) ≡ y′ * rowBytes w + j′ → Going w h t i₀ lent (dab (row + x) v n p) q false y′ row′ x′
+          → suc (length (g .done)) ≡ y′ * rowBytes w + j′ → Going w h rows t i₀ lent (dab (row + x) v n p) q false y′ row′ x′
       unfolding further
       step u n y′ row′ x′ j′ hn he hx hy′ hb hl =
           let k : count w h (length lent) - length (g .done) ≡ suc (count w h (length lent) - suc (length (g .done))) = omega (arith, less) in
@@ -184,8 +214,9 @@ module _ (w h : ℕ) (t : List ℕ) (i₀ : TextLocation) (lent : List ℕ) wher
           record {
             done = further;
             j = j′;
+            whole-rows = g .whole-rows;
             even = he;
-            inside = hx;
+            inside = λ l. hx;
             above = hy′;
             base = hb;
             size = length-dab (row + x) v n p ∙ g .size;
@@ -193,9 +224,9 @@ module _ (w h : ℕ) (t : List ℕ) (i₀ : TextLocation) (lent : List ℕ) wher
             long = d ∙ hl;
             within = omega (arith, less);
             cells =
-                paint-step w (omega (arith, g .inside)) y (g .j) (omega (arith, g .even, g .inside)) (row + x) n (omega (arith, g .base, g .even)) (omega (arith, g .even)) lent p (g .done) v q
+                paint-step w (omega (arith, in-row hr)) y (g .j) (omega (arith, g .even, in-row hr)) (row + x) n (omega (arith, g .base, g .even)) (omega (arith, g .even)) lent p (g .done) v q
                 (g .long)
-                (omega (arith, room hr, g .inside))
+                (omega (arith, room hr, in-row hr))
                 (g .cells);
             log = rw d (rw (k, log-more f t i (count w h (length lent) - suc (length (g .done))) got) at (g .log) ∙ sym (append-assoc (g .done) ((v, q) ∷ []) (logOf (count w h (length lent) - suc (length (g .done))) false t q)));
             fresh = rw d (sym (ne-eqb (suc (length (g .done))) 0 (λ z. omega arith)));
@@ -203,28 +234,33 @@ module _ (w h : ℕ) (t : List ℕ) (i₀ : TextLocation) (lent : List ℕ) wher
           }
 
       -- more of the row is left after it
-      pub going-more : {p′ : List ℕ} → 8 < w - x → p′ ≡ dab (row + x) v 8 p → Going w h t i₀ lent p′ q false y row (x + 8)
-      going-more l c = rw c (step 0 8 y row (x + 8) (suc (g .j)) (omega arith) (omega (arith, g .even)) (omega arith) (g .above) (g .base) (omega (arith, g .long)))
+      pub going-more : {c : List ℕ} → 8 < w - x → c ≡ unpacked v (take (row + x + 8 - (row + x)) (drop (row + x) p))
+          → Going w h rows t i₀ lent (take (row + x) p ++ (c ++ drop (row + x + 8 - (row + x)) (drop (row + x) p))) q false y row (x + 8)
+      going-more l c =
+          rw (c, dab-part (row + x) v 8 (row + x + 8) p refl (eight-inside hr l))
+          (step 0 8 y row (x + 8) (suc (g .j)) (omega arith) (omega (arith, g .even)) (omega arith) (g .above) (g .base) (omega (arith, g .long)))
 
       -- it ends the row
-      pub going-next : {p′ : List ℕ} → w - x ≤ 8 → p′ ≡ dab (row + x) v (w - x) p → Going w h t i₀ lent p′ q false (y + 1) (row + w) 0
+      pub going-next : {c : List ℕ} → w - x ≤ 8 → c ≡ unpacked v (take (row + x + (w - x) - (row + x)) (drop (row + x) p))
+          → Going w h rows t i₀ lent (take (row + x) p ++ (c ++ drop (row + x + (w - x) - (row + x)) (drop (row + x) p))) q false (y + 1) (row + w) 0
       going-next l c =
-          rw c
-          (step 0 (w - x) (y + 1) (row + w) 0 0 (omega arith) refl (omega (arith, g .inside)) (omega arith) (omega (arith, suc-mul y w, g .base))
-          (omega (arith, suc-mul y (rowBytes w), g .long, g .even, g .inside)))
+          rw (c, dab-part (row + x) v (w - x) (row + x + (w - x)) p refl (rest-inside hr))
+          (step 0 (w - x) (y + 1) (row + w) 0 0 (omega arith) refl (omega (arith, in-row hr)) (omega (arith, one-more hr)) (omega (arith, suc-mul y w, g .base))
+          (omega (arith, suc-mul y (rowBytes w), g .long, g .even, in-row hr)))
 
       -- the bytes left grow fewer
       pub fewer-more : 8 < w - x → count w h (length lent) - (y * rowBytes w + (x + 8) / 8) < count w h (length lent) - (y * rowBytes w + x / 8)
       fewer-more l = omega (arith, less, g .long, g .even)
 
       pub fewer-next : w - x ≤ 8 → count w h (length lent) - ((y + 1) * rowBytes w + 0 / 8) < count w h (length lent) - (y * rowBytes w + x / 8)
-      fewer-next l = omega (arith, less, g .long, g .even, g .inside, suc-mul y (rowBytes w))
+      fewer-next l = omega (arith, less, g .long, g .even, in-row hr, suc-mul y (rowBytes w))
 
     -- a data byte was read, and no row is left for it
-    pub going-few : {r : ByteRead} {v : ℕ} {q : TextLocation} → toldByte r ≡ item f t i → r ≡ Got v q → y < h → length lent / w ≤ y → Filled w h t i₀ lent p Mismatch
+    pub going-few : {r : ByteRead} {v : ℕ} {q : TextLocation} → toldByte r ≡ item f t i → r ≡ Got v q → y < h → rows ≤ y → Filled w h t i₀ lent p Mismatch
     unfolding _>>=_ need
     going-few {r} {v} {q} e m hy hr =
         let a : y ≤ min (length lent / w) h = g .above in
+        let k : rows ≡ length lent / w = g .whole-rows in
         let o : ok v q ≡ item f t i = rw m at e in
         ended Mismatch (omega arith) (rw (ne-eqb (length lent / w) h (λ z. omega arith), lt-ltb (length lent / w) h (omega arith), told-first (omega arith), ← o))
 
@@ -241,7 +277,7 @@ module _ (w h : ℕ) (t : List ℕ) (i₀ : TextLocation) (lent : List ℕ) wher
             let a : y ≤ min (length lent / w) h = g .above in
             ended (Refused part q) (omega arith) (rw (ne-eqb (length lent / w) h (λ z. omega arith), lt-ltb (length lent / w) h (omega arith), told-first (omega arith), ← o))
         go (yes n) =
-            let k : count w h (length lent) - length (g .done) ≡ suc (count w h (length lent) - suc (length (g .done))) = omega (arith, below (omega arith), g .long, g .even, g .inside) in
+            let k : count w h (length lent) - length (g .done) ≡ suc (count w h (length lent) - suc (length (g .done))) = omega (arith, below (omega arith), g .long, g .even, in-row (omega (arith, g .whole-rows))) in
             filled (Refused part q) (g .done ++ [])
             (rw (log-stop f t i (count w h (length lent) - length (g .done)) o) at (g .log))
             (append-nil (g .done))
@@ -252,17 +288,17 @@ module _ (w h : ℕ) (t : List ℕ) (i₀ : TextLocation) (lent : List ℕ) wher
     last l = omega (arith, g .above)
 
     module _ {m : Passed} (e : told m ≡ trailer t i) (hy : h ≤ y) where
-      pub going-done : {q : TextLocation} → m ≡ To q → length lent / w ≡ h → Filled w h t i₀ lent p Done
+      pub going-done : {q : TextLocation} → m ≡ To q → rows ≡ h → Filled w h t i₀ lent p Done
       unfolding _>>=_ give
       going-done {q} k n =
           let o : ok tt q ≡ trailer t i = rw k at e in
-          ended Done (last hy) (rw (eq-eqb (length lent / w) h n, ← o))
+          ended Done (last hy) (rw (eq-eqb (length lent / w) h (sym (g .whole-rows) ∙ n), ← o))
 
-      pub going-many : {q : TextLocation} → m ≡ To q → (length lent / w ≡ h → ⊥) → Filled w h t i₀ lent p Mismatch
+      pub going-many : {q : TextLocation} → m ≡ To q → (rows ≡ h → ⊥) → Filled w h t i₀ lent p Mismatch
       unfolding _>>=_ need
       going-many {q} k n =
           let o : ok tt q ≡ trailer t i = rw k at e in
-          ended Mismatch (last hy) (rw (ne-eqb (length lent / w) h n, le-ltb (length lent / w) h (omega (arith, last hy)), ← o))
+          ended Mismatch (last hy) (rw (ne-eqb (length lent / w) h (λ z. n (g .whole-rows ∙ z)), le-ltb (length lent / w) h (omega (arith, last hy)), ← o))
 
       pub going-bad : {part : XbmPart} {q : TextLocation} → m ≡ Stopped part q → Filled w h t i₀ lent p (Refused part q)
       unfolding _>>=_
@@ -275,6 +311,6 @@ module _ (w h : ℕ) (t : List ℕ) (i₀ : TextLocation) (lent : List ℕ) wher
           go true u = ended (Refused part q) (last hy) (rw (u, ← o))
           go false u = ended (Refused part q) (last hy) (rw (u, le-ltb (length lent / w) h (omega (arith, last hy)), ← o))
 
-pub ruleset room·laws = (start-fits, next-fits, eight-inside, rest-inside)
+pub ruleset room·laws = (left-fits, start-fits, next-fits, eight-inside, eight-fits, rest-inside, rest-fits)
 
 pub ruleset going·laws = (going-start, going-more, going-next, fewer-more, fewer-next, going-few, going-wrong, going-done, going-many, going-bad)

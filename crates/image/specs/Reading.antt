@@ -71,11 +71,6 @@ pub record Imaged (text name pixels name′ pixels′ : List ℕ) (r : ImageAnsw
   pub all : toldReading r name′ pixels′ ≡ reading text name pixels
   pub fits : r .name ≤ length name′
 
--- no side is zero
-pub record Sided (d : XbmHeaderData) : Type 0 where
-  pub wide : d .width ≡ 0 → ⊥
-  pub high : d .height ≡ 0 → ⊥
-
 -- reading what follows an accepted header d, from place p on
 pub record Pictured (d : XbmHeaderData) (t : List ℕ) (p : TextLocation) (lent later : List ℕ) (r : ImageRead) : Type 0 where
   pub answer : (name : List ℕ) → toldImage name r ≡ outcome (λ (l : List ℕ). headOf name d) (whole (d .width) (d .height) (length lent) t p)

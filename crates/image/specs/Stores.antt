@@ -12,6 +12,10 @@ abbrev pub dab : ℕ → ℕ → ℕ → List ℕ → List ℕ
 dab start b zero p = p
 dab start b (suc n) p = set (dab start b n p) (start + n) (ink b n)
 
+-- each cell takes its bit of b, the least first
+abbrev pub unpacked : ℕ → List ℕ → List ℕ
+unpacked b p = dab 0 b (length p) p
+
 -- the cells of data byte k of a picture w wide, in row k / rowBytes w, if the buffer has that row whole
 unfoldable pub byteStored : ℕ → ℕ → ℕ → List ℕ → List ℕ
 byteStored w k b p =

@@ -1,17 +1,17 @@
 // Pixels from a text: the header, then the rows of cells, into lent buffers.
 ghost use mathlib.Core.Path.{_≡_};
-ghost use Prim.Native.Nat.{_+_, _*_, _≤_, min};
-ghost use lib.ListN.{length, take};
+ghost use Prim.Native.Nat.{_*_, _/_, min};
+ghost use lib.ListN.{take};
 ghost use Rattle.lexical.specs.Lexical.{toldByte};
 ghost use Rattle.hex.specs.Hex.{hexOf, hexTable};
 ghost use Rattle.decoder.specs.Data.{item};
 ghost use Rattle.image.specs.Cells.{ink};
 ghost use Rattle.image.specs.Ink.{inkAt, inkOf};
 ghost use Rattle.image.specs.Limited.{limitedOf, Bounded, Limited};
-ghost use Rattle.image.specs.Stores.{dab, byteStored};
+ghost use Rattle.image.specs.Stores.{unpacked, byteStored};
 ghost use Rattle.image.specs.Quick.{Meets};
 ghost use Rattle.image.specs.Rows.{Filled};
-ghost use Rattle.image.specs.Reading.{Sided, Pictured, Imaged};
+ghost use Rattle.image.specs.Reading.{Pictured, Imaged};
 use decoder::read_data_byte;
 use decoder::read_trailer;
 use header::HeaderRead;
@@ -133,15 +133,14 @@ fn least(bits: u8) -> u8
     255
 }
 
-// n cells from `start` on take the bits of v, the least first.
-fn unpack(v: u8, pixels: &mut [u8], start: usize, n: usize)
-    requires { ⌜ start + n ≤ length (now pixels) ⌝ }
-    ensures { λ r. ⌜ now (pixels .exit) ≡ dab start v n (now (pixels .entry)) ⌝ }
+// Each cell takes its bit of v, the least first.
+fn unpack(v: u8, cells: &mut [u8])
+    ensures { λ _. ⌜ now (cells .exit) ≡ unpacked v (now (cells .entry)) ⌝ }
 {
     let mut bits = v;
     let mut i: usize = 0;
-    while i < n {
-        pixels[start + i] = least(bits);
+    while i < cells.len() {
+        cells[i] = least(bits);
         bits = bits / 2;
         i += 1;
     }
@@ -162,21 +161,33 @@ pub fn store_byte(pixels: &mut [u8], width: u32, position: u64, v: u8)
     }
     let x = position as usize % across * 8;
     let left = w - x;
+    let start = y * w + x;
     if left > 8 {
-        unpack(v, pixels, y * w + x, 8);
+        let end = start + 8;
+        unpack(v, &mut pixels[start..end]);
         return;
     }
-    unpack(v, pixels, y * w + x, left);
+    let end = start + left;
+    unpack(v, &mut pixels[start..end]);
 }
 
-// Fills the whole rows of `width` cells that the buffer has, as far as the picture goes; no side is zero.
+// How many whole rows of w cells a buffer of that length has: none where w is 0.
+fn whole_rows(length: usize, w: usize) -> usize
+    ensures { λ r. ⌜ r ≡ length / w ⌝ }
+{
+    if w == 0 {
+        return 0;
+    }
+    length / w
+}
+
+// Fills the whole rows of `width` cells that the buffer has, as far as the picture goes.
 fn read_rows(text: &[u8], place: TextLocation, width: u32, height: u32, pixels: &mut [u8]) -> Rows
-    requires { ⌜ (width ≡ 0 → ⊥) × (height ≡ 0 → ⊥) ⌝ }
     ensures { λ r. ⌜ Filled width height (now (text .entry)) place (now (pixels .entry)) (now (pixels .exit)) r ⌝ }
 {
     let w = width as usize;
     let h = height as usize;
-    let rows = pixels.len() / w;
+    let rows = whole_rows(pixels.len(), w);
     let table = hex_values();
     let mut at = place;
     let mut first = true;
@@ -190,11 +201,14 @@ fn read_rows(text: &[u8], place: TextLocation, width: u32, height: u32, pixels: 
                     return Rows::Mismatch;
                 }
                 let left = w - x;
+                let start = row + x;
                 if left > 8 {
-                    unpack(v, pixels, row + x, 8);
+                    let end = start + 8;
+                    unpack(v, &mut pixels[start..end]);
                     x += 8;
                 } else {
-                    unpack(v, pixels, row + x, left);
+                    let row_end = start + left;
+                    unpack(v, &mut pixels[start..row_end]);
                     row += w;
                     y += 1;
                     x = 0;
@@ -216,14 +230,13 @@ fn read_rows(text: &[u8], place: TextLocation, width: u32, height: u32, pixels: 
     }
 }
 
-// The rows of an accepted header, as the picture's answer; no side is zero.
+// The rows of an accepted header, as the picture's answer.
 fn read_picture(
     text: &[u8],
     place: TextLocation,
     header: XbmHeaderData,
     pixels: &mut [u8],
 ) -> ImageRead
-    requires { ⌜ Sided header ⌝ }
     ensures { λ r. ⌜ Pictured header (now (text .entry)) place (now (pixels .entry)) (now (pixels .exit)) r ⌝ }
 {
     match read_rows(text, place, header.width, header.height, pixels) {
@@ -279,7 +292,7 @@ fn limited_of(image: ImageRead) -> LimitedRead
     }
 }
 
-// The rows of an accepted header into the first width times height cells, if these are not above the limit; no side is zero.
+// The rows of an accepted header into the first width times height cells, if these are not above the limit.
 fn read_within(
     text: &[u8],
     place: TextLocation,
@@ -287,7 +300,6 @@ fn read_within(
     cells: &mut [u8],
     limit: u64,
 ) -> LimitedRead
-    requires { ⌜ Sided header ⌝ }
     ensures { λ r. ⌜ Bounded limit header (now (text .entry)) place (now (cells .entry)) (now (cells .exit)) r ⌝ }
 {
     let n = cell_count(header.width, header.height);

@@ -1,7 +1,7 @@
 -- The rows are read as the definition says: before each data byte the loop's state is as `Going` has it, and each way on is one of its laws.
 use Rattle.decoder.specs.Step.{rowBytes}
 use Rattle.image.specs.Rows.{count}
-use Rattle.image.proofs.Going.{Going, going·laws, room·laws}
+use Rattle.image.proofs.Going.{Going, going·laws, room·laws, eight-inside, rest-inside, rest-fits}
 use Prim.Native.Nat.{_+_, _-_, _*_, _/_}
 use lib.ListN.{length}
 use borrow.Author.Needs.{needs}
@@ -9,13 +9,13 @@ use Rattle.image.proofs.read_rows.Statement.{statement}
 use Rattle.image.proofs.read_rows.Tie as tie
 
 abbrev Inv-loop : tie.InvT-loop
-Inv-loop text width height pixels₀ w h rows table at₀ first₀ y₀ row₀ x₀ pixels at first y row x = Going w h text at₀ pixels₀ pixels at first y row x
+Inv-loop text width height pixels₀ w h rows table at₀ first₀ y₀ row₀ x₀ pixels at first y row x = Going w h rows text at₀ pixels₀ pixels at first y row x
 
 abbrev μ-loop : tie.MeasureT-loop
 μ-loop text width height pixels₀ w h rows table at₀ first₀ y₀ row₀ x₀ pixels at first y row x = count w h (length pixels₀) - (y * rowBytes w + x / 8)
 
-div-rows : tie.Need-div-rows Inv-loop μ-loop
-div-rows c = search needs
+whole-rows-requires : tie.Need-whole-rows-requires Inv-loop μ-loop
+whole-rows-requires c κs = search needs
 
 hex-values-requires : tie.Need-hex-values-requires Inv-loop μ-loop
 hex-values-requires c κs = search needs
@@ -36,22 +36,43 @@ returns : tie.Need-returns Inv-loop μ-loop
 returns c = search (going·laws, needs)
 
 sub-left : tie.Need-sub-left Inv-loop μ-loop
-sub-left c = search needs
+sub-left c = search (room·laws, needs)
 
-add-unpack : tie.Need-add-unpack Inv-loop μ-loop
-add-unpack c = search (room·laws, needs)
+add-start : tie.Need-add-start Inv-loop μ-loop
+add-start c = search (room·laws, needs)
+
+add-end : tie.Need-add-end Inv-loop μ-loop
+add-end c = search (room·laws, needs)
+
+sub-unpack : tie.Need-sub-unpack Inv-loop μ-loop
+sub-unpack c = search needs
+
+part-unpack-start : tie.Need-part-unpack-start Inv-loop μ-loop
+part-unpack-start c = search needs
+
+part-unpack-end : tie.Need-part-unpack-end Inv-loop μ-loop
+part-unpack-end c = search eight-inside
 
 unpack-requires : tie.Need-unpack-requires Inv-loop μ-loop
-unpack-requires c κs = search (room·laws, needs)
+unpack-requires c κs = search needs
 
 add-x : tie.Need-add-x Inv-loop μ-loop
 add-x c = search needs
 
-add-unpack-2 : tie.Need-add-unpack-2 Inv-loop μ-loop
-add-unpack-2 c = search (room·laws, needs)
+add-row-end : tie.Need-add-row-end Inv-loop μ-loop
+add-row-end c = search rest-fits
+
+sub-unpack-2 : tie.Need-sub-unpack-2 Inv-loop μ-loop
+sub-unpack-2 c = search needs
+
+part-unpack-start-2 : tie.Need-part-unpack-start-2 Inv-loop μ-loop
+part-unpack-start-2 c = search needs
+
+part-unpack-end-2 : tie.Need-part-unpack-end-2 Inv-loop μ-loop
+part-unpack-end-2 c = search rest-inside
 
 unpack-requires-2 : tie.Need-unpack-requires-2 Inv-loop μ-loop
-unpack-requires-2 c κs = search (room·laws, needs)
+unpack-requires-2 c κs = search needs
 
 add-row : tie.Need-add-row Inv-loop μ-loop
 add-row c = search (room·laws, needs)
@@ -113,7 +134,7 @@ read-rows-spec =
     (tie.spec
     Inv-loop
     μ-loop
-    div-rows
+    whole-rows-requires
     hex-values-requires
     loop-holds
     next-data-requires
@@ -121,10 +142,17 @@ read-rows-spec =
     same-length
     returns
     sub-left
-    add-unpack
+    add-start
+    add-end
+    sub-unpack
+    part-unpack-start
+    part-unpack-end
     unpack-requires
     add-x
-    add-unpack-2
+    add-row-end
+    sub-unpack-2
+    part-unpack-start-2
+    part-unpack-end-2
     unpack-requires-2
     add-row
     add-y

@@ -28,14 +28,26 @@ mul-x c = search (storing·laws, needs)
 sub-left : tie.Need-sub-left
 sub-left c = search (storing·laws, needs)
 
-mul-unpack : tie.Need-mul-unpack
-mul-unpack c = search (storing·laws, needs)
+mul-start : tie.Need-mul-start
+mul-start c = search (storing·laws, needs)
 
-add-unpack : tie.Need-add-unpack
-add-unpack c = search (storing·laws, needs)
+add-start : tie.Need-add-start
+add-start c = search (storing·laws, needs)
+
+add-end : tie.Need-add-end
+add-end c = search (storing·laws, needs)
+
+sub-unpack : tie.Need-sub-unpack
+sub-unpack c = search needs
+
+part-unpack-start : tie.Need-part-unpack-start
+part-unpack-start c = search needs
+
+part-unpack-end : tie.Need-part-unpack-end
+part-unpack-end c = search (storing·laws, needs)
 
 unpack-requires : tie.Need-unpack-requires
-unpack-requires c κs = search (storing·laws, needs)
+unpack-requires c κs = search needs
 
 same-length : tie.Need-same-length
 same-length c = search needs
@@ -43,14 +55,20 @@ same-length c = search needs
 returns-3 : tie.Need-returns-3
 returns-3 c = search (storing·laws, needs)
 
-mul-unpack-2 : tie.Need-mul-unpack-2
-mul-unpack-2 c = search (storing·laws, needs)
+add-end-2 : tie.Need-add-end-2
+add-end-2 c = search (storing·laws, needs)
 
-add-unpack-2 : tie.Need-add-unpack-2
-add-unpack-2 c = search (storing·laws, needs)
+sub-unpack-2 : tie.Need-sub-unpack-2
+sub-unpack-2 c = search needs
+
+part-unpack-start-2 : tie.Need-part-unpack-start-2
+part-unpack-start-2 c = search needs
+
+part-unpack-end-2 : tie.Need-part-unpack-end-2
+part-unpack-end-2 c = search (storing·laws, needs)
 
 unpack-requires-2 : tie.Need-unpack-requires-2
-unpack-requires-2 c κs = search (storing·laws, needs)
+unpack-requires-2 c κs = search needs
 
 same-length-2 : tie.Need-same-length-2
 same-length-2 c = search needs
@@ -70,13 +88,19 @@ store-byte-spec =
     rem-x
     mul-x
     sub-left
-    mul-unpack
-    add-unpack
+    mul-start
+    add-start
+    add-end
+    sub-unpack
+    part-unpack-start
+    part-unpack-end
     unpack-requires
     same-length
     returns-3
-    mul-unpack-2
-    add-unpack-2
+    add-end-2
+    sub-unpack-2
+    part-unpack-start-2
+    part-unpack-end-2
     unpack-requires-2
     same-length-2
     returns-4)

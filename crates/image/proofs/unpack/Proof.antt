@@ -1,15 +1,16 @@
 -- `image::unpack` meets its contract: the loop keeps `Inv-loop`, and each way on is a law (`dabbing·laws`).
 use Rattle.image.proofs.Stores.{Dabbing, dabbing·laws}
 use Prim.Native.Nat.{_-_}
+use lib.ListN.{length}
 use borrow.Author.Needs.{needs}
 use Rattle.image.proofs.unpack.Statement.{statement}
 use Rattle.image.proofs.unpack.Tie as tie
 
 abbrev Inv-loop : tie.InvT-loop
-Inv-loop v pixels₀ start n bits₀ i₀ pixels bits i = Dabbing start v n pixels₀ pixels bits i
+Inv-loop v cells₀ bits₀ i₀ cells bits i = Dabbing v cells₀ cells bits i
 
 abbrev μ-loop : tie.MeasureT-loop
-μ-loop v pixels₀ start n bits₀ i₀ pixels bits i = n - i
+μ-loop v cells₀ bits₀ i₀ cells bits i = length cells₀ - i
 
 loop-holds : tie.Need-loop-holds Inv-loop μ-loop
 loop-holds c = search (dabbing·laws, needs)
@@ -17,11 +18,8 @@ loop-holds c = search (dabbing·laws, needs)
 least-requires : tie.Need-least-requires Inv-loop μ-loop
 least-requires c κs = search (dabbing·laws, needs)
 
-add-pixels : tie.Need-add-pixels Inv-loop μ-loop
-add-pixels c = search (dabbing·laws, needs)
-
-slice-write-pixels : tie.Need-slice-write-pixels Inv-loop μ-loop
-slice-write-pixels c = search (dabbing·laws, needs)
+slice-write-cells : tie.Need-slice-write-cells Inv-loop μ-loop
+slice-write-cells c = search (dabbing·laws, needs)
 
 add-i : tie.Need-add-i Inv-loop μ-loop
 add-i c = search (dabbing·laws, needs)
@@ -46,8 +44,7 @@ unpack-spec =
     μ-loop
     loop-holds
     least-requires
-    add-pixels
-    slice-write-pixels
+    slice-write-cells
     add-i
     loop-less
     loop-again
