@@ -20,7 +20,7 @@ use Rattle.text.specs.Outcome.{Outcome, accepted, refused, unplaced, outcome}
 use Rattle.header.specs.Header.{Head, header, header-local}
 use Rattle.image.specs.Rows.{whole, whole-local}
 use Rattle.image.specs.Reading.{picture, reading}
-use Rattle.image.specs.Ink.{inkOf}
+use Rattle.ink.specs.Ink.{inkOf}
 use Rattle.image.specs.Limited.{cellsOf, unpictured, pictured, afterHeader, limited}
 use Rattle.listing.specs.Listing.{inkIn, unread, listedOf, Listed, listedWithin, listed, listing}
 use Rattle.grammar.specs.Lang.{_·_}

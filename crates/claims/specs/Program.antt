@@ -22,7 +22,7 @@ use Rattle.image.specs.Rows.{whole}
 use Rattle.image.specs.Reading.{picture, reading}
 use Rattle.print.specs.Decimal.{digits}
 use Rattle.print.specs.Output.{joined}
-use Rattle.image.specs.Ink.{inkOf}
+use Rattle.ink.specs.Ink.{inkOf}
 use Rattle.image.specs.Limited.{cellsOf, afterHeader, limited}
 use Rattle.listing.specs.Listing.{acceptedText, printed, Listed, listedWithin, listed, listing}
 use Rattle.grammar.specs.Grammar.{Mask, Header, Format}

@@ -4,5 +4,4 @@ pub mod Stores
 pub mod Paint
 pub mod Going
 pub mod Whole
-pub mod Ink
 pub mod Limit

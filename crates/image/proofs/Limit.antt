@@ -30,7 +30,7 @@ use Rattle.image.specs.Cells.{painted}
 use Rattle.image.specs.Rows.{count, whole}
 use Rattle.image.specs.Reading.{picture, reading, toldImage, Pictured}
 use Rattle.image.specs.Limited.{unpictured, pictured, toldLimited, limitedReading, limitedOf, afterHeader, limited, Bounded, Limited}
-use Rattle.image.proofs.Ink.{size-fits, size-within, first-cells, other-cells}
+use Rattle.ink.proofs.Ink.{size-fits, size-within, first-cells, other-cells}
 use Rattle.image.proofs.Whole.{head-is, name-fits, same-reading}
 
 -- ---- an answer within the limit

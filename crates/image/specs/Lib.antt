@@ -3,7 +3,6 @@ pub mod Cells
 pub mod Rows
 pub mod Reading
 pub mod Limited
-pub mod Ink
 pub mod Quick
 pub mod Stores
 pub mod Kept

@@ -1,12 +1,10 @@
 // Pixels from a text: the header, then the rows of cells, into lent buffers.
 ghost use mathlib.Core.Path.{_≡_};
-ghost use Prim.Native.Nat.{_*_, _/_, min};
-ghost use lib.ListN.{take};
+ghost use Prim.Native.Nat.{_/_};
 ghost use Rattle.lexical.specs.Lexical.{toldByte};
 ghost use Rattle.hex.specs.Hex.{hexOf, hexTable};
 ghost use Rattle.decoder.specs.Data.{item};
 ghost use Rattle.image.specs.Cells.{ink};
-ghost use Rattle.image.specs.Ink.{inkAt, inkOf};
 ghost use Rattle.image.specs.Limited.{limitedOf, Bounded, Limited};
 ghost use Rattle.image.specs.Stores.{unpacked, byteStored};
 ghost use Rattle.image.specs.Quick.{Meets};
@@ -21,6 +19,8 @@ use header::XbmHeaderData;
 use header::read_xbm_header;
 use header::refusal_of;
 use hex::hex_values;
+use ink::at_most;
+use ink::cell_count;
 use lexical::ByteRead;
 use lexical::Passed;
 use lexical::XbmPart;
@@ -264,23 +264,6 @@ pub fn read_image(text: &[u8], name: &mut [u8], pixels: &mut [u8]) -> ImageAnswe
     }
 }
 
-// How many cells a picture has.
-pub fn cell_count(width: u32, height: u32) -> u64
-    ensures { λ r. ⌜ r ≡ width * height ⌝ }
-{
-    (width as u64) * (height as u64)
-}
-
-// The lesser of a number and a length.
-fn at_most(n: u64, length: usize) -> usize
-    ensures { λ r. ⌜ r ≡ min n length ⌝ }
-{
-    if n < length as u64 {
-        return n as usize;
-    }
-    length
-}
-
 // A picture's answer, its refusal by its number.
 fn limited_of(image: ImageRead) -> LimitedRead
     ensures { λ r. ⌜ r ≡ limitedOf image ⌝ }
@@ -326,35 +309,4 @@ pub fn read_limited(text: &[u8], name: &mut [u8], cells: &mut [u8], limit: u64) 
             name: read.name,
         },
     }
-}
-
-// One for a cell of ink, which is 0.
-fn ink_at(cell: u8) -> u64
-    ensures { λ r. ⌜ r ≡ inkAt cell ⌝ }
-{
-    if cell == 0 {
-        return 1;
-    }
-    0
-}
-
-// How many cells are 0.
-fn count_ink(cells: &[u8]) -> u64
-    ensures { λ r. ⌜ r ≡ inkOf (now (cells .entry)) ⌝ }
-{
-    let mut n: u64 = 0;
-    let mut i = 0;
-    while i < cells.len() {
-        n += ink_at(cells[i]);
-        i += 1;
-    }
-    n
-}
-
-// How many cells of a picture are 0: the first width times height of those lent.
-pub fn picture_ink(cells: &[u8], width: u32, height: u32) -> u64
-    ensures { λ r. ⌜ r ≡ inkOf (take (width * height) (now (cells .entry))) ⌝ }
-{
-    let size = at_most(cell_count(width, height), cells.len());
-    count_ink(&cells[..size])
 }

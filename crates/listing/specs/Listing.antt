@@ -12,7 +12,7 @@ use Rattle.text.specs.Place.{pick}
 use Rattle.text.specs.Outcome.{Outcome, accepted, refused, unplaced}
 use Rattle.header.specs.Header.{Head}
 use Rattle.header.specs.Answer.{toldRefusal, headOf}
-use Rattle.image.specs.Ink.{inkOf}
+use Rattle.ink.specs.Ink.{inkOf}
 use Rattle.image.specs.Reading.{Reading}
 use Rattle.image.specs.Limited.{cellsOf, limited}
 use Rattle.print.specs.Output.{output, puts, joined}

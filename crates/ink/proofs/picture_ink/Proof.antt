@@ -1,8 +1,8 @@
--- `image::picture_ink` meets its contract: the first cells are counted (`ink-first`).
+-- `ink::picture_ink` meets its contract: the first cells are counted (`ink-first`).
 use borrow.Author.Needs.{needs}
-use Rattle.image.proofs.Ink.{size-fits, ink-first}
-use Rattle.image.proofs.picture_ink.Statement.{statement}
-use Rattle.image.proofs.picture_ink.Tie as tie
+use Rattle.ink.proofs.Ink.{size-fits, ink-first}
+use Rattle.ink.proofs.picture_ink.Statement.{statement}
+use Rattle.ink.proofs.picture_ink.Tie as tie
 
 cell-count-requires : tie.Need-cell-count-requires
 cell-count-requires c κs = search needs

@@ -1,10 +1,10 @@
--- `image::count_ink` meets its contract: the loop keeps `Inv-loop`, and each way on is a law (`counting·laws`).
+-- `ink::count_ink` meets its contract: the loop keeps `Inv-loop`, and each way on is a law (`counting·laws`).
 use borrow.Author.Needs.{needs}
 use Prim.Native.Nat.{_-_}
 use lib.ListN.{length}
-use Rattle.image.proofs.Ink.{Counting, counting·laws}
-use Rattle.image.proofs.count_ink.Statement.{statement}
-use Rattle.image.proofs.count_ink.Tie as tie
+use Rattle.ink.proofs.Ink.{Counting, counting·laws}
+use Rattle.ink.proofs.count_ink.Statement.{statement}
+use Rattle.ink.proofs.count_ink.Tie as tie
 
 abbrev Inv-loop : tie.InvT-loop
 Inv-loop cells n₀ i₀ n i = Counting cells n i

@@ -1,8 +1,8 @@
--- `image::cell_count` meets its contract: each return is a law (`count-fits`).
+-- `ink::cell_count` meets its contract: each return is a law (`count-fits`).
 use borrow.Author.Needs.{needs}
-use Rattle.image.proofs.Ink.{count-fits}
-use Rattle.image.proofs.cell_count.Statement.{statement}
-use Rattle.image.proofs.cell_count.Tie as tie
+use Rattle.ink.proofs.Ink.{count-fits}
+use Rattle.ink.proofs.cell_count.Statement.{statement}
+use Rattle.ink.proofs.cell_count.Tie as tie
 
 mul-result : tie.Need-mul-result
 mul-result c = search (count-fits, needs)

@@ -14,7 +14,7 @@ use lib.Seq.{drop-cons, take-all, take-length, drop-length}
 use lib.Dec.{eqb}
 use borrow.Author.Tests.{eq-eqb, ne-eqb}
 use Rattle.text.specs.Place.{pick}
-use Rattle.image.specs.Ink.{inkAt, inkOf}
+use Rattle.ink.specs.Ink.{inkAt, inkOf}
 
 -- n cells of ink among the first i
 pub record Counting (cells : List ℕ) (n i : ℕ) : Type 0 where
