@@ -16,7 +16,8 @@ use Rattle.lexical.specs.Token.{upTo, token}
 use Rattle.hex.specs.Hex.{hexv, hexDigit, hexStart, hexDigits, hexUnit}
 use Rattle.header.specs.Header.{widthLine, element, arrayLine, rest as headerRest, header}
 use Rattle.decoder.specs.Data.{item, items, brace, closing, tail, trailer}
-use Rattle.image.specs.Rows.{count, ending, whole}
+use Rattle.cells.specs.Cells.{count}
+use Rattle.rows.specs.Rows.{ending, whole}
 
 abbrev within : ℕ → ℕ → ℕ → Bool
 within lo hi c = pick (leb lo c) (leb c hi) false

@@ -18,8 +18,8 @@ use Rattle.hex.specs.Hex.{hexOf, hexv, hexDigit, isMark, hexStart, hexDigits, h
 use Rattle.integer.specs.Decimal.{isDigit, digitsFrom}
 use Rattle.header.specs.Header.{rest as restOf, Head, endsWith, before, positive, widthLine, element, arrayLine, header}
 use Rattle.decoder.specs.Data.{item, items, brace, closing, tail, trailer, logOf}
-use Rattle.image.specs.Cells.{cell, painted}
-use Rattle.image.specs.Rows.{whole}
+use Rattle.cells.specs.Cells.{cell, painted}
+use Rattle.rows.specs.Rows.{whole}
 use Rattle.image.specs.Reading.{picture, reading}
 use Rattle.grammar.specs.Grammar.{Mask, Header, Format}
 use Rattle.grammar.specs.Sample.{writes-M}

@@ -26,8 +26,8 @@ use Rattle.image.specs.declared.ImageRead.{ImageRead}
 use Rattle.image.specs.declared.ImageRead.the-variants.{Read as ImageIs, Refused as ImageRefused, DimensionMismatch}
 use Rattle.image.specs.declared.LimitedRead.{LimitedRead}
 use Rattle.image.specs.declared.LimitedRead.the-variants.{Read, Refused}
-use Rattle.image.specs.Cells.{painted}
-use Rattle.image.specs.Rows.{count, whole}
+use Rattle.cells.specs.Cells.{painted, count}
+use Rattle.rows.specs.Rows.{whole}
 use Rattle.image.specs.Reading.{picture, reading, toldImage, Pictured}
 use Rattle.image.specs.Limited.{unpictured, pictured, toldLimited, limitedReading, limitedOf, afterHeader, limited, Bounded, Limited}
 use Rattle.ink.proofs.Ink.{size-fits, size-within, first-cells, other-cells}

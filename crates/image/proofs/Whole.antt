@@ -18,11 +18,11 @@ use Rattle.header.specs.declared.HeaderAnswer.{HeaderAnswer}
 use Rattle.header.proofs.Told.{error-never, error-placed, error-unplaced}
 use Rattle.header.specs.Header.{Head, header}
 use Rattle.header.specs.Answer.{headOf, toldError, nameLength, Headed}
-use Rattle.image.specs.declared.Rows.{Rows}
-use Rattle.image.specs.declared.Rows.the-variants.{Done, Refused as RowsRefused, Mismatch}
+use Rattle.rows.specs.declared.Rows.{Rows}
+use Rattle.rows.specs.declared.Rows.the-variants.{Done, Refused as RowsRefused, Mismatch}
 use Rattle.image.specs.declared.ImageRead.{ImageRead}
 use Rattle.image.specs.declared.ImageRead.the-variants.{Read, Refused, DimensionMismatch}
-use Rattle.image.specs.Rows.{toldRows, whole, Filled}
+use Rattle.rows.specs.Rows.{toldRows, whole, Filled}
 use Rattle.image.specs.Reading.{picture, nameIn, cellsIn, Reading, reading, toldImage, Imaged, Pictured}
 
 -- ---- what the header's answer says of the header

@@ -1,39 +1,18 @@
 // Pixels from a text: the header, then the rows of cells, into lent buffers.
 ghost use mathlib.Core.Path.{_≡_};
-ghost use Prim.Native.Nat.{_/_};
-ghost use Rattle.lexical.specs.Lexical.{toldByte};
-ghost use Rattle.hex.specs.Hex.{hexOf, hexTable};
-ghost use Rattle.decoder.specs.Data.{item};
-ghost use Rattle.image.specs.Cells.{ink};
 ghost use Rattle.image.specs.Limited.{limitedOf, Bounded, Limited};
-ghost use Rattle.image.specs.Stores.{unpacked, byteStored};
-ghost use Rattle.image.specs.Quick.{Meets};
-ghost use Rattle.image.specs.Rows.{Filled};
 ghost use Rattle.image.specs.Reading.{Pictured, Imaged};
-use decoder::read_data_byte;
-use decoder::read_trailer;
 use header::HeaderRead;
 use header::Refusal;
 use header::XbmDecodeError;
 use header::XbmHeaderData;
 use header::read_xbm_header;
 use header::refusal_of;
-use hex::hex_values;
 use ink::at_most;
 use ink::cell_count;
-use lexical::ByteRead;
-use lexical::Passed;
-use lexical::XbmPart;
+use rows::Rows;
+use rows::read_rows;
 use text::TextLocation;
-use text::along;
-use text::has_left;
-
-// The rows read; a refusal; or rows that are not the picture's.
-pub enum Rows {
-    Done,
-    Refused(XbmPart, TextLocation),
-    Mismatch,
-}
 
 // The picture read; a refusal; or a pixel buffer whose rows are not the picture's.
 pub enum ImageRead {
@@ -57,177 +36,6 @@ pub enum LimitedRead {
 pub struct LimitedAnswer {
     pub image: LimitedRead,
     pub name: usize,
-}
-
-// A byte and the place after it, or no word of what stands there.
-pub enum Quick {
-    Hit(u8, TextLocation),
-    Miss,
-}
-
-// A digit's value by the table.
-fn hex_at(table: &[u8; 256], b: u8) -> u8
-    requires { ⌜ now table ≡ hexTable ⌝ }
-    ensures { λ r. ⌜ r ≡ hexOf b ⌝ }
-{
-    table[b as usize]
-}
-
-// The common `, 0xHH` at once.
-fn quick_byte(text: &[u8], place: TextLocation, first: bool, table: &[u8; 256]) -> Quick
-    requires { ⌜ now table ≡ hexTable ⌝ }
-    ensures { λ r. ⌜ Meets r (item first (now (text .entry)) place) ⌝ }
-{
-    if first {
-        return Quick::Miss;
-    }
-    if !has_left(text, place, 6) {
-        return Quick::Miss;
-    }
-    let i = place.byte.0 as usize;
-    if text[i] != b',' {
-        return Quick::Miss;
-    }
-    if text[i + 1] != b' ' {
-        return Quick::Miss;
-    }
-    if text[i + 2] != b'0' {
-        return Quick::Miss;
-    }
-    if text[i + 3] != b'x' {
-        return Quick::Miss;
-    }
-    let hi = hex_at(table, text[i + 4]);
-    if hi >= 16 {
-        return Quick::Miss;
-    }
-    let lo = hex_at(table, text[i + 5]);
-    if lo >= 16 {
-        return Quick::Miss;
-    }
-    Quick::Hit(hi * 16 + lo, along(place, 6))
-}
-
-// The next data byte: the common form at once, anything else by the plain reader. The plain answer is taken apart and made again, so that
-// it shares no memory with the quick one, which then stays in registers.
-fn next_data(text: &[u8], place: TextLocation, first: bool, table: &[u8; 256]) -> ByteRead
-    requires { ⌜ now table ≡ hexTable ⌝ }
-    ensures { λ r. ⌜ toldByte r ≡ item first (now (text .entry)) place ⌝ }
-{
-    match quick_byte(text, place, first, table) {
-        Quick::Hit(v, next) => ByteRead::Got(v, next),
-        Quick::Miss => match read_data_byte(text, place, first) {
-            ByteRead::Got(v, next) => ByteRead::Got(v, next),
-            ByteRead::Refused(part, p) => ByteRead::Refused(part, p),
-        },
-    }
-}
-
-// The least bit as a cell.
-fn least(bits: u8) -> u8
-    ensures { λ r. ⌜ r ≡ ink bits 0 ⌝ }
-{
-    if bits % 2 == 1 {
-        return 0;
-    }
-    255
-}
-
-// Each cell takes its bit of v, the least first.
-fn unpack(v: u8, cells: &mut [u8])
-    ensures { λ _. ⌜ now (cells .exit) ≡ unpacked v (now (cells .entry)) ⌝ }
-{
-    let mut bits = v;
-    let mut i: usize = 0;
-    while i < cells.len() {
-        cells[i] = least(bits);
-        bits = bits / 2;
-        i += 1;
-    }
-}
-
-// The cells of data byte `position` of a picture so wide take its bits, where they fall in a whole row of the buffer.
-pub fn store_byte(pixels: &mut [u8], width: u32, position: u64, v: u8)
-    ensures { λ _. ⌜ now (pixels .exit) ≡ byteStored width position v (now (pixels .entry)) ⌝ }
-{
-    if width == 0 {
-        return;
-    }
-    let w = width as usize;
-    let across = (w + 7) / 8;
-    let y = position as usize / across;
-    if y >= pixels.len() / w {
-        return;
-    }
-    let x = position as usize % across * 8;
-    let left = w - x;
-    let start = y * w + x;
-    if left > 8 {
-        let end = start + 8;
-        unpack(v, &mut pixels[start..end]);
-        return;
-    }
-    let end = start + left;
-    unpack(v, &mut pixels[start..end]);
-}
-
-// How many whole rows of w cells a buffer of that length has: none where w is 0.
-fn whole_rows(length: usize, w: usize) -> usize
-    ensures { λ r. ⌜ r ≡ length / w ⌝ }
-{
-    if w == 0 {
-        return 0;
-    }
-    length / w
-}
-
-// Fills the whole rows of `width` cells that the buffer has, as far as the picture goes.
-fn read_rows(text: &[u8], place: TextLocation, width: u32, height: u32, pixels: &mut [u8]) -> Rows
-    ensures { λ r. ⌜ Filled width height (now (text .entry)) place (now (pixels .entry)) (now (pixels .exit)) r ⌝ }
-{
-    let w = width as usize;
-    let h = height as usize;
-    let rows = whole_rows(pixels.len(), w);
-    let table = hex_values();
-    let mut at = place;
-    let mut first = true;
-    let mut y: usize = 0;
-    let mut row: usize = 0;
-    let mut x: usize = 0;
-    while y < h {
-        match next_data(text, at, first, &table) {
-            ByteRead::Got(v, next) => {
-                if y >= rows {
-                    return Rows::Mismatch;
-                }
-                let left = w - x;
-                let start = row + x;
-                if left > 8 {
-                    let end = start + 8;
-                    unpack(v, &mut pixels[start..end]);
-                    x += 8;
-                } else {
-                    let row_end = start + left;
-                    unpack(v, &mut pixels[start..row_end]);
-                    row += w;
-                    y += 1;
-                    x = 0;
-                }
-                at = next;
-                first = false;
-            }
-            ByteRead::Refused(part, p) => return Rows::Refused(part, p),
-        }
-    }
-    match read_trailer(text, at) {
-        Passed::To(_) => {
-            if rows == h {
-                return Rows::Done;
-            }
-            Rows::Mismatch
-        }
-        Passed::Refused(part, p) => Rows::Refused(part, p),
-    }
 }
 
 // The rows of an accepted header, as the picture's answer.

@@ -16,7 +16,7 @@ use Rattle.hex.specs.Hex.{hexOf, hexv, hexDigit, isMark, hexStart, hexDigits, h
 use Rattle.integer.specs.Decimal.{isDigit, digitsFrom}
 use Rattle.header.specs.Header.{endsWith, before, positive, widthLine, element, arrayLine, rest as restOf, opening, header}
 use Rattle.decoder.specs.Data.{item, items, brace, closing, tail, trailer}
-use Rattle.image.specs.Rows.{whole}
+use Rattle.rows.specs.Rows.{whole}
 use Rattle.image.specs.Reading.{picture, reading}
 use Rattle.grammar.specs.Lang.{Lang, Word, _·_, All, Many, Some, Star, stop as none-more}
 use Rattle.grammar.specs.Grammar.{Mask, blank, solid, Gap, Skipped, Define, Symbol, Header, Data, Format}

@@ -18,7 +18,7 @@ use Rattle.text.specs.Leaf.{give, want, need, moved, scan, run, go-on, stay, ha
 use Rattle.lexical.specs.Lexical.{isLoose, fixed, gap, lineEnd, leading, fixed-local, gap-local, lineEnd-local, leading-local}
 use Rattle.lexical.specs.Token.{upTo, token, token-local}
 use Rattle.header.specs.Header.{hashDefine, endWidth, before, value, line, side, signed, unsigned, positive, widthLine, ending, hotspot, rest as headerRest, header, array-local}
-use Rattle.image.specs.Rows.{whole-local}
+use Rattle.rows.specs.Rows.{whole-local}
 use Rattle.image.specs.Reading.{picture}
 use Rattle.grammar.specs.Lang.{Lang, Word, Lit, _·_, All, Star}
 use Rattle.grammar.specs.Grammar.{blank, space, solid, Gap, Skipped, Define, Symbol, Side, Coordinate}

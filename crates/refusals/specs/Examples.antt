@@ -15,8 +15,8 @@ use Rattle.integer.specs.Decimal.{isDigit, digitsFrom}
 use Rattle.header.specs.Header.{endsWith, before, positive, widthLine, element, arrayLine, rest as restOf, opening, header}
 use Rattle.header.specs.Answer.{stored}
 use Rattle.decoder.specs.Data.{item, items, brace, closing, tail, trailer, logOf}
-use Rattle.image.specs.Cells.{cell, painted}
-use Rattle.image.specs.Rows.{whole}
+use Rattle.cells.specs.Cells.{cell, painted}
+use Rattle.rows.specs.Rows.{whole}
 use Rattle.image.specs.Reading.{picture, reading}
 use Rattle.print.specs.Decimal.{digits}
 use Rattle.print.specs.Output.{joined}

@@ -16,7 +16,7 @@ use Rattle.hex.specs.Hex.{hexOf, hexv, hexDigit, isMark, hexStart, hexDigits, h
 use Rattle.integer.specs.Decimal.{isDigit, digitsFrom}
 use Rattle.header.specs.Header.{endsWith, before, positive, widthLine, element, arrayLine, rest as restLines, header}
 use Rattle.decoder.specs.Data.{item, items, brace, closing, tail, trailer}
-use Rattle.image.specs.Rows.{whole}
+use Rattle.rows.specs.Rows.{whole}
 use Rattle.image.specs.Reading.{picture, reading}
 use Rattle.xbm_c.specs.declared.Summary.{Summary}
 use Rattle.xbm_c.specs.Report.{Tells, headerTold, imageTold, reportOf, coordinates}
