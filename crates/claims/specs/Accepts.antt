@@ -16,8 +16,8 @@ use Rattle.text.specs.Outcome.{accepted, outcome}
 use Rattle.header.specs.Header.{Head, header}
 use Rattle.decoder.specs.Data.{item, items, closing, tail, trailer}
 use Rattle.decoder.specs.Step.{rowBytes, bytesOf}
-use Rattle.image.specs.Cells.{painted}
-use Rattle.image.specs.Rows.{count, mismatch, ending, whole}
+use Rattle.cells.specs.Cells.{painted, count}
+use Rattle.rows.specs.Rows.{mismatch, ending, whole}
 use Rattle.image.specs.Reading.{picture, cellsIn, reading}
 use Rattle.grammar.specs.Grammar.{Mask, Format}
 use Rattle.grammar.specs.Bind.{bind-case}

@@ -18,7 +18,7 @@ use Rattle.lexical.specs.Token.{overlay}
 use Rattle.symbol.specs.Symbol.{stored}
 use Rattle.header.specs.Header.{Head, header, header-local, header-firm}
 use Rattle.decoder.specs.Data.{tail, Log}
-use Rattle.image.specs.Cells.{painted}
+use Rattle.cells.specs.Cells.{painted}
 use Rattle.image.specs.Reading.{nameIn, Reading, reading}
 use Rattle.grammar.specs.Lang.{_·_}
 use Rattle.grammar.specs.Grammar.{Mask, Header, Format}

@@ -11,7 +11,7 @@ use Rattle.text.specs.Reader.{Result, ok, stop, bad, then, _>>=_}
 use Rattle.text.specs.Leaf.{give}
 use Rattle.text.specs.Outcome.{Outcome, outcome}
 use Rattle.header.specs.Header.{Head, header}
-use Rattle.image.specs.Rows.{whole}
+use Rattle.rows.specs.Rows.{whole}
 use Rattle.image.specs.Reading.{picture, nameIn, cellsIn, reading}
 use Rattle.grammar.specs.Grammar.{Mask, Header}
 use Rattle.grammar.specs.Fits.{Any}

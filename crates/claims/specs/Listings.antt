@@ -14,7 +14,7 @@ use Rattle.text.specs.Reader.{Result, ok, stop, bad, then, _>>=_, cut-firm, cut
 use Rattle.text.specs.Outcome.{Outcome, accepted, refused, unplaced, outcome}
 use Rattle.header.specs.Header.{Head, header, header-local, header-firm}
 use Rattle.image.specs.Reading.{Reading, reading, picture}
-use Rattle.image.specs.Ink.{inkOf}
+use Rattle.ink.specs.Ink.{inkOf}
 use Rattle.image.specs.Limited.{cellsOf, pictured, afterHeader, limited}
 use Rattle.listing.specs.Listing.{textLimit, cellLimit, acceptedText, printed, inkIn, listedOf, listedText, listedWithin, listed, listing}
 use Rattle.grammar.specs.Lang.{_·_}

@@ -17,7 +17,7 @@ use Rattle.text.specs.Outcome.{unplaced, outcome}
 use Rattle.header.specs.Header.{Head, header}
 use Rattle.decoder.specs.Data.{item, items, closing, tail, trailer}
 use Rattle.decoder.specs.Step.{rowBytes, bytesOf}
-use Rattle.image.specs.Rows.{mismatch, whole}
+use Rattle.rows.specs.Rows.{mismatch, whole}
 use Rattle.image.specs.Reading.{picture, reading}
 use Rattle.grammar.specs.Lang.{_·_}
 use Rattle.grammar.specs.Grammar.{Mask}

@@ -17,7 +17,8 @@ use Rattle.hex.specs.Hex.{hexv, hexDigit, hexStart, hexDigits, hexUnit}
 use Rattle.lines.specs.Lines.{widthLine, element, arrayLine}
 use Rattle.header.specs.Header.{rest as headerRest, header}
 use Rattle.decoder.specs.Data.{item, items, brace, closing, tail, trailer}
-use Rattle.image.specs.Rows.{count, ending, whole}
+use Rattle.cells.specs.Cells.{count}
+use Rattle.rows.specs.Rows.{ending, whole}
 
 abbrev within : ℕ → ℕ → ℕ → Bool
 within lo hi c = pick (leb lo c) (leb c hi) false

@@ -12,7 +12,7 @@ use lib.Dec.{eqb}
 use borrow.Author.Tests.{eqb-true, eqb-false}
 use Rattle.text.specs.Place.{pick}
 use Rattle.decoder.specs.Data.{Log}
-use Rattle.image.specs.Cells.{ink, byteFor, byteAt, inked, cell, cellsFrom, painted}
+use Rattle.cells.specs.Cells.{ink, byteFor, byteAt, inked, cell, cellsFrom, painted}
 use Rattle.grammar.specs.Grammar.{Mask}
 use Rattle.claims.specs.Terms.{W, rows, bit, Rule}
 use Rattle.claims.specs.Logs.{none-yet}

@@ -18,9 +18,9 @@ use Rattle.text.specs.Reader.{Result, ok, stop, bad, then, _>>=_, Local, bind-l
 use Rattle.text.specs.Leaf.{give, give-local}
 use Rattle.text.specs.Outcome.{Outcome, accepted, refused, unplaced, outcome}
 use Rattle.header.specs.Header.{Head, header, header-local}
-use Rattle.image.specs.Rows.{whole, whole-local}
+use Rattle.rows.specs.Rows.{whole, whole-local}
 use Rattle.image.specs.Reading.{picture, reading}
-use Rattle.image.specs.Ink.{inkOf}
+use Rattle.ink.specs.Ink.{inkOf}
 use Rattle.image.specs.Limited.{cellsOf, unpictured, pictured, afterHeader, limited}
 use Rattle.listing.specs.Listing.{inkIn, unread, listedOf, Listed, listedWithin, listed, listing}
 use Rattle.grammar.specs.Lang.{_·_}

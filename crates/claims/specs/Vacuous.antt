@@ -20,8 +20,8 @@ use Rattle.symbol.specs.Symbol.{endsWith, before}
 use Rattle.lines.specs.Lines.{positive, widthLine, element, arrayLine}
 use Rattle.header.specs.Header.{rest as restOf, Head, header}
 use Rattle.decoder.specs.Data.{item, items, brace, closing, tail, trailer, logOf}
-use Rattle.image.specs.Cells.{cell, painted}
-use Rattle.image.specs.Rows.{whole}
+use Rattle.cells.specs.Cells.{cell, painted}
+use Rattle.rows.specs.Rows.{whole}
 use Rattle.image.specs.Reading.{picture, reading}
 use Rattle.grammar.specs.Grammar.{Mask, Header, Format}
 use Rattle.grammar.specs.Sample.{writes-M}

@@ -27,12 +27,12 @@ use Rattle.image.specs.declared.ImageRead.{ImageRead}
 use Rattle.image.specs.declared.ImageRead.the-variants.{Read as ImageIs, Refused as ImageRefused, DimensionMismatch}
 use Rattle.image.specs.declared.LimitedRead.{LimitedRead}
 use Rattle.image.specs.declared.LimitedRead.the-variants.{Read, Refused}
-use Rattle.image.specs.Cells.{painted}
-use Rattle.image.specs.Rows.{count, whole}
+use Rattle.cells.specs.Cells.{painted, count}
+use Rattle.rows.specs.Rows.{whole}
 use Rattle.image.specs.Reading.{picture, reading, toldImage, Pictured}
 use Rattle.image.specs.Limited.{unpictured, pictured, toldLimited, limitedReading, limitedOf, afterHeader, limited, Bounded, Limited}
-use Rattle.image.proofs.Ink.{size-fits, size-within, first-cells, other-cells}
-use Rattle.image.proofs.Whole.{head-is, head-sides, name-fits, same-reading}
+use Rattle.ink.proofs.Ink.{size-fits, size-within, first-cells, other-cells}
+use Rattle.image.proofs.Whole.{head-is, name-fits, same-reading}
 
 -- ---- an answer within the limit
 
@@ -146,4 +146,4 @@ module _ (limit : ℕ) (t name name′ lent : List ℕ) {h : HeaderAnswer} (k : 
       less (stop c m) w s = omega arith
       less (bad c m) w s = omega arith
 
-pub ruleset within·laws = (within-read, within-refused, head-sides)
+pub ruleset within·laws = (within-read, within-refused)

@@ -2,17 +2,12 @@
 use mathlib.Core.Path.{_≡_, refl, sym, ap, _∙_}
 use Prim.Native.Nat.{ℕ, _≤_}
 use native.Mathlib.Omega.{arith}
-use mathlib.Core.Option.{none, some}
-use mathlib.Core.Bool.{Bool, true, false}
 use mathlib.Core.List.{List}
 use lib.ListN.{length, take, length-take}
-use lib.Dec.{eqb}
-use borrow.Author.Tests.{eqb-false}
 use Rattle.text.specs.declared.TextLocation.{TextLocation}
-use Rattle.text.specs.Place.{pick, start}
+use Rattle.text.specs.Place.{start}
 use Rattle.text.specs.Reader.{Result, ok, stop, bad, then, _>>=_}
-use Rattle.text.specs.Leaf.{give, need}
-use Rattle.text.specs.Yields.{Yields, yields-from, yields-bind, yields-give, yields-fork}
+use Rattle.text.specs.Leaf.{give}
 use Rattle.text.specs.Outcome.{Outcome, accepted, refused, unplaced, outcome, Ended, ending-at, shown}
 use Rattle.lexical.specs.declared.XbmPart.{XbmPart}
 use Rattle.error.specs.declared.XbmDecodeError.{XbmDecodeError}
@@ -20,51 +15,17 @@ use Rattle.error.specs.declared.XbmDecodeError.the-variants.{Parse}
 use Rattle.error.proofs.Told.{error-never, error-placed, error-unplaced}
 use Rattle.error.specs.Error.{toldError}
 use Rattle.symbol.specs.Symbol.{stored}
-use Rattle.lines.specs.Lines.{positive, widthLine}
 use Rattle.header.specs.declared.XbmHeaderData.{XbmHeaderData}
 use Rattle.header.specs.declared.HeaderRead.the-variants.{Read as HeadRead, Refused as HeadRefused}
 use Rattle.header.specs.declared.HeaderAnswer.{HeaderAnswer}
-use Rattle.header.specs.Header.{Head, rest, header}
+use Rattle.header.specs.Header.{Head, header}
 use Rattle.header.specs.Answer.{headOf, nameLength, Headed}
-use Rattle.image.specs.declared.Rows.{Rows}
-use Rattle.image.specs.declared.Rows.the-variants.{Done, Refused as RowsRefused, Mismatch}
+use Rattle.rows.specs.declared.Rows.{Rows}
+use Rattle.rows.specs.declared.Rows.the-variants.{Done, Refused as RowsRefused, Mismatch}
 use Rattle.image.specs.declared.ImageRead.{ImageRead}
 use Rattle.image.specs.declared.ImageRead.the-variants.{Read, Refused, DimensionMismatch}
-use Rattle.image.specs.Rows.{toldRows, whole, Filled}
-use Rattle.image.specs.Reading.{picture, nameIn, cellsIn, Reading, reading, toldImage, Imaged, Sided, Pictured}
-
--- ---- no side of an accepted header is zero
-
-abbrev Some : ℕ → Type 0
-Some n = n ≡ 0 → ⊥
-
-yields-positive : (c v : ℕ) → Yields (need c (positive v)) Some
-unfolding need positive
-yields-positive c v = record { yields = λ t i b e q. go (eqb v 0) refl t i b e q }
-  where
-    go : (x : Bool) → eqb v 0 ≡ x → (t : List ℕ) (i : TextLocation) (b : ℕ) (e : TextLocation) → need c (pick x none (some v)) t i ≡ ok b e → Some b
-    go true h t i b e q = let z : _≡_ {A = ℕ} 0 1 = cc in absurd (omega arith)
-    go false h t i b e q = λ k. eqb-false v 0 h (let z : v ≡ b = cc in z ∙ k)
-
-abbrev Sides : Head → Type 0
-Sides h = Some (h .width) × Some (h .height)
-
-yields-rest : (name : List ℕ) (w h : ℕ) → Some w → Some h → Yields (rest name w h) Sides
-unfolding rest
-yields-rest name w h a b =
-    yields-fork 5 35 115 (yields-bind _ (λ x. yields-bind _ (λ y. yields-bind _ (λ u. yields-give _ (a, b))))) (yields-bind _ (λ u. yields-give _ (a, b)))
-
-yields-width : (limit : ℕ) → Yields (widthLine limit) (λ nw. Some (nw .1))
-unfolding widthLine
-yields-width limit =
-    yields-bind _ (λ u. yields-bind _ (λ u. yields-bind _ (λ s. yields-bind _ (λ name. yields-bind _ (λ u. yields-bind _ (λ w. yields-bind _ (λ u. yields-bind _ (λ v. yields-from Some (yields-positive 21 v) (λ n k. yields-give (name, n) k)))))))))
-
-yields-header : (limit : ℕ) → Yields (header limit) Sides
-unfolding header
-yields-header limit =
-    yields-bind _ (λ u. yields-from (λ nw. Some (nw .1)) (yields-width limit) (λ nw a. yields-from Some
-    (yields-bind _ (λ u. yields-bind _ (λ u. yields-bind _ (λ u. yields-bind _ (λ u. yields-bind _ (λ u. yields-bind _ (λ w. yields-bind _ (λ u. yields-bind _ (λ v. yields-positive 22 v)))))))))
-    (λ h b. yields-rest (nw .0) (nw .1) h a b)))
+use Rattle.rows.specs.Rows.{toldRows, whole, Filled}
+use Rattle.image.specs.Reading.{picture, nameIn, cellsIn, Reading, reading, toldImage, Imaged, Pictured}
 
 -- ---- what the header's answer says of the header
 
@@ -81,9 +42,6 @@ module _ (t name name′ : List ℕ) {h : HeaderAnswer} (k : Headed t name name�
   module _ {d : XbmHeaderData} {p : TextLocation} (e : h .header ≡ HeadRead d p) where
     pub head-is : header (length name) t start ≡ ok (headOf (take (h .name) name′) d) p
     head-is = accepted-is (rw e at (k .answer))
-
-    pub head-sides : Sided d
-    head-sides = let (a, b) = yields-header (length name) .yields t start (headOf (take (h .name) name′) d) p head-is in record { wide = a; high = b }
 
     pub name-fits : h .name ≤ length name′
     name-fits = omega (arith, k .size ∙ ap nameLength head-is, length-take (h .name) name′)
@@ -141,7 +99,7 @@ module _ (t name name′ lent : List ℕ) {h : HeaderAnswer} (k : Headed t name 
       less (stop c m) x w s = omega arith
       less (bad c m) x w s = omega arith
 
-pub ruleset image·laws = (image-read, image-refused, head-sides)
+pub ruleset image·laws = (image-read, image-refused)
 
 -- ---- the rows' answer, for an accepted header
 

@@ -1,9 +1,3 @@
--- The definitions and laws of `image`, by module.
-pub mod Cells
-pub mod Rows
+-- The definitions of `image`, by module.
 pub mod Reading
 pub mod Limited
-pub mod Ink
-pub mod Quick
-pub mod Stores
-pub mod Kept

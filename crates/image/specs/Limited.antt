@@ -17,8 +17,8 @@ use Rattle.header.specs.declared.XbmHeaderData.{XbmHeaderData}
 use Rattle.header.specs.Header.{Head, header}
 use Rattle.header.specs.Answer.{headOf}
 use Rattle.decoder.specs.Data.{logOf}
-use Rattle.image.specs.Cells.{painted}
-use Rattle.image.specs.Rows.{count, whole}
+use Rattle.cells.specs.Cells.{painted, count}
+use Rattle.rows.specs.Rows.{whole}
 use Rattle.image.specs.Reading.{Reading, reading}
 use Rattle.image.specs.declared.ImageRead.{ImageRead}
 use Rattle.image.specs.declared.ImageRead.the-variants.{Read as ImageIs, Refused as ImageRefused, DimensionMismatch}

@@ -16,8 +16,8 @@ use Rattle.header.specs.declared.XbmHeaderData.{XbmHeaderData}
 use Rattle.header.specs.Header.{Head, header}
 use Rattle.header.specs.Answer.{headOf}
 use Rattle.decoder.specs.Data.{logOf}
-use Rattle.image.specs.Cells.{painted}
-use Rattle.image.specs.Rows.{count, whole}
+use Rattle.cells.specs.Cells.{painted, count}
+use Rattle.rows.specs.Rows.{whole}
 use Rattle.image.specs.declared.ImageRead.{ImageRead}
 use Rattle.image.specs.declared.ImageRead.the-variants.{Read, Refused, DimensionMismatch}
 use Rattle.image.specs.declared.ImageAnswer.{ImageAnswer}
@@ -72,11 +72,6 @@ toldReading r name pixels = record { answer = toldImage (take (r .name) name) (r
 pub record Imaged (text name pixels name′ pixels′ : List ℕ) (r : ImageAnswer) : Type 0 where
   pub all : toldReading r name′ pixels′ ≡ reading text name pixels
   pub fits : r .name ≤ length name′
-
--- no side is zero
-pub record Sided (d : XbmHeaderData) : Type 0 where
-  pub wide : d .width ≡ 0 → ⊥
-  pub high : d .height ≡ 0 → ⊥
 
 -- reading what follows an accepted header d, from place p on
 pub record Pictured (d : XbmHeaderData) (t : List ℕ) (p : TextLocation) (lent later : List ℕ) (r : ImageRead) : Type 0 where

@@ -1,39 +1,18 @@
 // Pixels from a text: the header, then the rows of cells, into lent buffers.
 ghost use mathlib.Core.Path.{_≡_};
-ghost use Prim.Native.Nat.{_+_, _*_, _≤_, min};
-ghost use lib.ListN.{length, take};
-ghost use Rattle.lexical.specs.Lexical.{toldByte};
-ghost use Rattle.hex.specs.Hex.{hexOf, hexTable};
-ghost use Rattle.decoder.specs.Data.{item};
-ghost use Rattle.image.specs.Cells.{ink};
-ghost use Rattle.image.specs.Ink.{inkAt, inkOf};
 ghost use Rattle.image.specs.Limited.{limitedOf, Bounded, Limited};
-ghost use Rattle.image.specs.Stores.{dab, byteStored};
-ghost use Rattle.image.specs.Quick.{Meets};
-ghost use Rattle.image.specs.Rows.{Filled};
-ghost use Rattle.image.specs.Reading.{Sided, Pictured, Imaged};
-use decoder::read_data_byte;
-use decoder::read_trailer;
+ghost use Rattle.image.specs.Reading.{Pictured, Imaged};
 use error::Refusal;
 use error::XbmDecodeError;
 use error::refusal_of;
 use header::HeaderRead;
 use header::XbmHeaderData;
 use header::read_xbm_header;
-use hex::hex_values;
-use lexical::ByteRead;
-use lexical::Passed;
-use lexical::XbmPart;
+use ink::at_most;
+use ink::cell_count;
+use rows::Rows;
+use rows::read_rows;
 use text::TextLocation;
-use text::along;
-use text::has_left;
-
-// The rows read; a refusal; or rows that are not the picture's.
-pub enum Rows {
-    Done,
-    Refused(XbmPart, TextLocation),
-    Mismatch,
-}
 
 // The picture read; a refusal; or a pixel buffer whose rows are not the picture's.
 pub enum ImageRead {
@@ -59,171 +38,13 @@ pub struct LimitedAnswer {
     pub name: usize,
 }
 
-// A byte and the place after it, or no word of what stands there.
-pub enum Quick {
-    Hit(u8, TextLocation),
-    Miss,
-}
-
-// A digit's value by the table.
-fn hex_at(table: &[u8; 256], b: u8) -> u8
-    requires { ⌜ now table ≡ hexTable ⌝ }
-    ensures { λ r. ⌜ r ≡ hexOf b ⌝ }
-{
-    table[b as usize]
-}
-
-// The common `, 0xHH` at once.
-fn quick_byte(text: &[u8], place: TextLocation, first: bool, table: &[u8; 256]) -> Quick
-    requires { ⌜ now table ≡ hexTable ⌝ }
-    ensures { λ r. ⌜ Meets r (item first (now (text .entry)) place) ⌝ }
-{
-    if first {
-        return Quick::Miss;
-    }
-    if !has_left(text, place, 6) {
-        return Quick::Miss;
-    }
-    let i = place.byte.0 as usize;
-    if text[i] != b',' {
-        return Quick::Miss;
-    }
-    if text[i + 1] != b' ' {
-        return Quick::Miss;
-    }
-    if text[i + 2] != b'0' {
-        return Quick::Miss;
-    }
-    if text[i + 3] != b'x' {
-        return Quick::Miss;
-    }
-    let hi = hex_at(table, text[i + 4]);
-    if hi >= 16 {
-        return Quick::Miss;
-    }
-    let lo = hex_at(table, text[i + 5]);
-    if lo >= 16 {
-        return Quick::Miss;
-    }
-    Quick::Hit(hi * 16 + lo, along(place, 6))
-}
-
-// The next data byte: the common form at once, anything else by the plain reader. The plain answer is taken apart and made again, so that
-// it shares no memory with the quick one, which then stays in registers.
-fn next_data(text: &[u8], place: TextLocation, first: bool, table: &[u8; 256]) -> ByteRead
-    requires { ⌜ now table ≡ hexTable ⌝ }
-    ensures { λ r. ⌜ toldByte r ≡ item first (now (text .entry)) place ⌝ }
-{
-    match quick_byte(text, place, first, table) {
-        Quick::Hit(v, next) => ByteRead::Got(v, next),
-        Quick::Miss => match read_data_byte(text, place, first) {
-            ByteRead::Got(v, next) => ByteRead::Got(v, next),
-            ByteRead::Refused(part, p) => ByteRead::Refused(part, p),
-        },
-    }
-}
-
-// The least bit as a cell.
-fn least(bits: u8) -> u8
-    ensures { λ r. ⌜ r ≡ ink bits 0 ⌝ }
-{
-    if bits % 2 == 1 {
-        return 0;
-    }
-    255
-}
-
-// n cells from `start` on take the bits of v, the least first.
-fn unpack(v: u8, pixels: &mut [u8], start: usize, n: usize)
-    requires { ⌜ start + n ≤ length (now pixels) ⌝ }
-    ensures { λ r. ⌜ now (pixels .exit) ≡ dab start v n (now (pixels .entry)) ⌝ }
-{
-    let mut bits = v;
-    let mut i: usize = 0;
-    while i < n {
-        pixels[start + i] = least(bits);
-        bits = bits / 2;
-        i += 1;
-    }
-}
-
-// The cells of data byte `position` of a picture so wide take its bits, where they fall in a whole row of the buffer.
-pub fn store_byte(pixels: &mut [u8], width: u32, position: u64, v: u8)
-    ensures { λ _. ⌜ now (pixels .exit) ≡ byteStored width position v (now (pixels .entry)) ⌝ }
-{
-    if width == 0 {
-        return;
-    }
-    let w = width as usize;
-    let across = (w + 7) / 8;
-    let y = position as usize / across;
-    if y >= pixels.len() / w {
-        return;
-    }
-    let x = position as usize % across * 8;
-    let left = w - x;
-    if left > 8 {
-        unpack(v, pixels, y * w + x, 8);
-        return;
-    }
-    unpack(v, pixels, y * w + x, left);
-}
-
-// Fills the whole rows of `width` cells that the buffer has, as far as the picture goes; no side is zero.
-fn read_rows(text: &[u8], place: TextLocation, width: u32, height: u32, pixels: &mut [u8]) -> Rows
-    requires { ⌜ (width ≡ 0 → ⊥) × (height ≡ 0 → ⊥) ⌝ }
-    ensures { λ r. ⌜ Filled width height (now (text .entry)) place (now (pixels .entry)) (now (pixels .exit)) r ⌝ }
-{
-    let w = width as usize;
-    let h = height as usize;
-    let rows = pixels.len() / w;
-    let table = hex_values();
-    let mut at = place;
-    let mut first = true;
-    let mut y: usize = 0;
-    let mut row: usize = 0;
-    let mut x: usize = 0;
-    while y < h {
-        match next_data(text, at, first, &table) {
-            ByteRead::Got(v, next) => {
-                if y >= rows {
-                    return Rows::Mismatch;
-                }
-                let left = w - x;
-                if left > 8 {
-                    unpack(v, pixels, row + x, 8);
-                    x += 8;
-                } else {
-                    unpack(v, pixels, row + x, left);
-                    row += w;
-                    y += 1;
-                    x = 0;
-                }
-                at = next;
-                first = false;
-            }
-            ByteRead::Refused(part, p) => return Rows::Refused(part, p),
-        }
-    }
-    match read_trailer(text, at) {
-        Passed::To(_) => {
-            if rows == h {
-                return Rows::Done;
-            }
-            Rows::Mismatch
-        }
-        Passed::Refused(part, p) => Rows::Refused(part, p),
-    }
-}
-
-// The rows of an accepted header, as the picture's answer; no side is zero.
+// The rows of an accepted header, as the picture's answer.
 fn read_picture(
     text: &[u8],
     place: TextLocation,
     header: XbmHeaderData,
     pixels: &mut [u8],
 ) -> ImageRead
-    requires { ⌜ Sided header ⌝ }
     ensures { λ r. ⌜ Pictured header (now (text .entry)) place (now (pixels .entry)) (now (pixels .exit)) r ⌝ }
 {
     match read_rows(text, place, header.width, header.height, pixels) {
@@ -251,23 +72,6 @@ pub fn read_image(text: &[u8], name: &mut [u8], pixels: &mut [u8]) -> ImageAnswe
     }
 }
 
-// How many cells a picture has.
-pub fn cell_count(width: u32, height: u32) -> u64
-    ensures { λ r. ⌜ r ≡ width * height ⌝ }
-{
-    (width as u64) * (height as u64)
-}
-
-// The lesser of a number and a length.
-fn at_most(n: u64, length: usize) -> usize
-    ensures { λ r. ⌜ r ≡ min n length ⌝ }
-{
-    if n < length as u64 {
-        return n as usize;
-    }
-    length
-}
-
 // A picture's answer, its refusal by its number.
 fn limited_of(image: ImageRead) -> LimitedRead
     ensures { λ r. ⌜ r ≡ limitedOf image ⌝ }
@@ -279,7 +83,7 @@ fn limited_of(image: ImageRead) -> LimitedRead
     }
 }
 
-// The rows of an accepted header into the first width times height cells, if these are not above the limit; no side is zero.
+// The rows of an accepted header into the first width times height cells, if these are not above the limit.
 fn read_within(
     text: &[u8],
     place: TextLocation,
@@ -287,7 +91,6 @@ fn read_within(
     cells: &mut [u8],
     limit: u64,
 ) -> LimitedRead
-    requires { ⌜ Sided header ⌝ }
     ensures { λ r. ⌜ Bounded limit header (now (text .entry)) place (now (cells .entry)) (now (cells .exit)) r ⌝ }
 {
     let n = cell_count(header.width, header.height);
@@ -314,35 +117,4 @@ pub fn read_limited(text: &[u8], name: &mut [u8], cells: &mut [u8], limit: u64) 
             name: read.name,
         },
     }
-}
-
-// One for a cell of ink, which is 0.
-fn ink_at(cell: u8) -> u64
-    ensures { λ r. ⌜ r ≡ inkAt cell ⌝ }
-{
-    if cell == 0 {
-        return 1;
-    }
-    0
-}
-
-// How many cells are 0.
-fn count_ink(cells: &[u8]) -> u64
-    ensures { λ r. ⌜ r ≡ inkOf (now (cells .entry)) ⌝ }
-{
-    let mut n: u64 = 0;
-    let mut i = 0;
-    while i < cells.len() {
-        n += ink_at(cells[i]);
-        i += 1;
-    }
-    n
-}
-
-// How many cells of a picture are 0: the first width times height of those lent.
-pub fn picture_ink(cells: &[u8], width: u32, height: u32) -> u64
-    ensures { λ r. ⌜ r ≡ inkOf (take (width * height) (now (cells .entry))) ⌝ }
-{
-    let size = at_most(cell_count(width, height), cells.len());
-    count_ink(&cells[..size])
 }

@@ -19,7 +19,7 @@ use Rattle.header.specs.declared.XbmHeaderData.{XbmHeaderData}
 use Rattle.header.specs.declared.Hotspot.{Hotspot}
 use Rattle.header.specs.declared.Hotspot.the-variants.{Absent, At}
 use Rattle.header.specs.Answer.{headOf, hotOf}
-use Rattle.image.specs.Ink.{inkOf}
+use Rattle.ink.specs.Ink.{inkOf}
 use Rattle.image.specs.declared.LimitedRead.the-variants.{Read, Refused as NotRead}
 use Rattle.image.specs.declared.LimitedAnswer.{LimitedAnswer}
 use Rattle.image.specs.Limited.{limitedReading, Limited}

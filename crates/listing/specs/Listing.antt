@@ -13,7 +13,7 @@ use Rattle.text.specs.Outcome.{Outcome, accepted, refused, unplaced}
 use Rattle.error.specs.Error.{toldRefusal}
 use Rattle.header.specs.Header.{Head}
 use Rattle.header.specs.Answer.{headOf}
-use Rattle.image.specs.Ink.{inkOf}
+use Rattle.ink.specs.Ink.{inkOf}
 use Rattle.image.specs.Reading.{Reading}
 use Rattle.image.specs.Limited.{cellsOf, limited}
 use Rattle.print.specs.Output.{output, puts, joined}

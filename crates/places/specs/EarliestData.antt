@@ -16,7 +16,8 @@ use Rattle.text.specs.Outcome.{refused}
 use Rattle.header.specs.Header.{Head, header}
 use Rattle.decoder.specs.Data.{item, items, closing, tail, trailer}
 use Rattle.decoder.specs.Step.{rowBytes}
-use Rattle.image.specs.Rows.{count, mismatch, ending, whole}
+use Rattle.cells.specs.Cells.{count}
+use Rattle.rows.specs.Rows.{mismatch, ending, whole}
 use Rattle.image.specs.Reading.{picture, reading}
 use Rattle.grammar.specs.Lang.{Lang, _·_}
 use Rattle.grammar.specs.Grammar.{Mask, Header, Data, Closing}

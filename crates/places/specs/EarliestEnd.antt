@@ -17,7 +17,8 @@ use Rattle.text.specs.Outcome.{refused}
 use Rattle.header.specs.Header.{Head, header, header-local}
 use Rattle.decoder.specs.Data.{items, closing, tail, trailer, items-local, closing-local, tail-local}
 use Rattle.decoder.specs.Step.{bytesOf}
-use Rattle.image.specs.Rows.{count, mismatch, ending}
+use Rattle.cells.specs.Cells.{count}
+use Rattle.rows.specs.Rows.{mismatch, ending}
 use Rattle.image.specs.Reading.{reading}
 use Rattle.grammar.specs.Lang.{_·_}
 use Rattle.grammar.specs.Grammar.{Mask, Header, Data, Closing, Format}

@@ -18,7 +18,7 @@ use Rattle.symbol.specs.Symbol.{endsWith, before, opening}
 use Rattle.lines.specs.Lines.{positive, widthLine, element, arrayLine}
 use Rattle.header.specs.Header.{rest as restOf, header}
 use Rattle.decoder.specs.Data.{item, items, brace, closing, tail, trailer}
-use Rattle.image.specs.Rows.{whole}
+use Rattle.rows.specs.Rows.{whole}
 use Rattle.image.specs.Reading.{picture, reading}
 use Rattle.grammar.specs.Lang.{Lang, Word, _·_, All, Many, Some, Star, stop as none-more}
 use Rattle.grammar.specs.Grammar.{Mask, blank, solid, Gap, Skipped, Define, Symbol, Header, Data, Format}

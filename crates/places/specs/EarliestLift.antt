@@ -15,7 +15,7 @@ use Rattle.text.specs.Reader.{Result, ok, stop, bad, Reader, _>>=_, Same}
 use Rattle.text.specs.Leaf.{give}
 use Rattle.text.specs.Outcome.{refused, outcome}
 use Rattle.header.specs.Header.{Head, header}
-use Rattle.image.specs.Rows.{whole}
+use Rattle.rows.specs.Rows.{whole}
 use Rattle.image.specs.Reading.{picture, reading}
 use Rattle.grammar.specs.Lang.{Lang, _·_}
 use Rattle.grammar.specs.Bind.{bind-ok}

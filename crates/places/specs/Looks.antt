@@ -20,7 +20,7 @@ use Rattle.lexical.specs.Token.{upTo, token, token-local}
 use Rattle.symbol.specs.Symbol.{hashDefine, endWidth, before}
 use Rattle.lines.specs.Lines.{value, line, side, signed, unsigned, positive, widthLine, array-local}
 use Rattle.header.specs.Header.{ending, hotspot, rest as headerRest, header}
-use Rattle.image.specs.Rows.{whole-local}
+use Rattle.rows.specs.Rows.{whole-local}
 use Rattle.image.specs.Reading.{picture}
 use Rattle.grammar.specs.Lang.{Lang, Word, Lit, _·_, All, Star}
 use Rattle.grammar.specs.Grammar.{blank, space, solid, Gap, Skipped, Define, Symbol, Side, Coordinate}

@@ -15,7 +15,8 @@ use Rattle.lexical.specs.Lexical.{is, while, lead, byte, skip, fixed, gap, line
 use Rattle.hex.specs.Hex.{hexv, hexDigit, hexStart, hexDigits, hexUnit, hexUnit-local, hexDigits-local, hexDigit-local}
 use Rattle.lines.specs.Lines.{element, arrayLine, line-laws}
 use Rattle.decoder.specs.Data.{item, items, brace, closing, tail, trailer, item-local, items-local, closing-local, trailer-local, brace-local}
-use Rattle.image.specs.Rows.{count, ending, whole}
+use Rattle.cells.specs.Cells.{count}
+use Rattle.rows.specs.Rows.{ending, whole}
 
 -- what is known where a reader, started at a place of a text, looked ahead: its number, and the place that it tells
 abbrev pub Looks : Type 1

@@ -18,7 +18,7 @@ use Rattle.text.specs.Outcome.{refused, outcome}
 use Rattle.header.specs.Header.{Head, header}
 use Rattle.decoder.specs.Data.{item, items}
 use Rattle.decoder.specs.Step.{rowBytes}
-use Rattle.image.specs.Rows.{mismatch, ending, whole}
+use Rattle.rows.specs.Rows.{mismatch, ending, whole}
 use Rattle.image.specs.Reading.{picture, reading}
 use Rattle.grammar.specs.Lang.{_·_}
 use Rattle.grammar.specs.Grammar.{Mask, Header, Data, Format}

@@ -15,7 +15,8 @@ use Rattle.text.specs.Leaf.{give, need}
 use Rattle.text.specs.Outcome.{Outcome, accepted, refused, unplaced, outcome}
 use Rattle.header.specs.Header.{Head, header}
 use Rattle.decoder.specs.Data.{item, items, closing, tail, trailer}
-use Rattle.image.specs.Rows.{count, ending, whole}
+use Rattle.cells.specs.Cells.{count}
+use Rattle.rows.specs.Rows.{ending, whole}
 use Rattle.image.specs.Reading.{picture, reading}
 use Rattle.grammar.specs.Lang.{_·_}
 use Rattle.grammar.specs.Grammar.{Mask, Header, Data, Closing, Loose}

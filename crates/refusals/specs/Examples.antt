@@ -16,8 +16,8 @@ use Rattle.symbol.specs.Symbol.{endsWith, before, opening, stored}
 use Rattle.lines.specs.Lines.{positive, widthLine, element, arrayLine}
 use Rattle.header.specs.Header.{rest as restOf, header}
 use Rattle.decoder.specs.Data.{item, items, brace, closing, tail, trailer, logOf}
-use Rattle.image.specs.Cells.{cell, painted}
-use Rattle.image.specs.Rows.{whole}
+use Rattle.cells.specs.Cells.{cell, painted}
+use Rattle.rows.specs.Rows.{whole}
 use Rattle.image.specs.Reading.{picture, reading}
 use Rattle.print.specs.Decimal.{digits}
 use Rattle.print.specs.Output.{joined}

@@ -16,7 +16,7 @@ use Rattle.text.specs.Outcome.{Outcome, refused, unplaced, outcome}
 use Rattle.lexical.specs.Lexical.{locals, milds, leading}
 use Rattle.lines.specs.Lines.{line-laws, side, positive, widthLine, element, arrayLine}
 use Rattle.header.specs.Header.{Head, rest, header}
-use Rattle.image.specs.Rows.{whole}
+use Rattle.rows.specs.Rows.{whole}
 use Rattle.image.specs.Reading.{picture, reading}
 use Rattle.grammar.specs.Lang.{Lang, Word, _·_, All, Star}
 use Rattle.grammar.specs.Grammar.{Mask, solid, Decimal, Side, Skipped, Define, Symbol}

@@ -15,7 +15,7 @@ use Rattle.text.specs.Leaf.{give}
 use Rattle.text.specs.Outcome.{unplaced, outcome}
 use Rattle.lines.specs.Lines.{widthLine, element, arrayLine}
 use Rattle.header.specs.Header.{Head, rest, header}
-use Rattle.image.specs.Rows.{whole}
+use Rattle.rows.specs.Rows.{whole}
 use Rattle.image.specs.Reading.{picture, reading}
 use Rattle.claims.specs.Numbers.{header-numbered, whole-numbered, placed-number, unplaced-number}
 use Rattle.refusals.specs.Stages.{Quiet}

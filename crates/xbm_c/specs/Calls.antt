@@ -18,7 +18,7 @@ use Rattle.symbol.specs.Symbol.{endsWith, before}
 use Rattle.lines.specs.Lines.{positive, widthLine, element, arrayLine}
 use Rattle.header.specs.Header.{rest as restLines, header}
 use Rattle.decoder.specs.Data.{item, items, brace, closing, tail, trailer}
-use Rattle.image.specs.Rows.{whole}
+use Rattle.rows.specs.Rows.{whole}
 use Rattle.image.specs.Reading.{picture, reading}
 use Rattle.xbm_c.specs.declared.Summary.{Summary}
 use Rattle.xbm_c.specs.Report.{Tells, headerTold, imageTold, reportOf, coordinates}

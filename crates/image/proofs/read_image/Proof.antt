@@ -11,7 +11,7 @@ enum-known-header : tie.Need-enum-known-header
 enum-known-header c = search needs
 
 read-picture-requires : tie.Need-read-picture-requires
-read-picture-requires c κs = search (image·laws, needs)
+read-picture-requires c κs = search needs
 
 enum-known-header-2 : tie.Need-enum-known-header-2
 enum-known-header-2 c = search needs

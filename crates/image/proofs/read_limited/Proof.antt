@@ -11,7 +11,7 @@ enum-known-header : tie.Need-enum-known-header
 enum-known-header c = search needs
 
 read-within-requires : tie.Need-read-within-requires
-read-within-requires c κs = search (within·laws, needs)
+read-within-requires c κs = search needs
 
 enum-known-header-2 : tie.Need-enum-known-header-2
 enum-known-header-2 c = search needs

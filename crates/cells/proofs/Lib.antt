@@ -1,0 +1,3 @@
+-- What the proofs of `cells` share, by module.
+pub mod Stores
+pub mod Paint

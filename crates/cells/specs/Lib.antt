@@ -1,0 +1,4 @@
+-- The definitions and laws of `cells`, by module.
+pub mod Cells
+pub mod Stores
+pub mod Kept

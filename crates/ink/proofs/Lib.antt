@@ -1,0 +1,2 @@
+-- What the proofs of `ink` share, by module.
+pub mod Ink

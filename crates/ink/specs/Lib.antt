@@ -1,0 +1,2 @@
+-- The definitions of `ink`, by module.
+pub mod Ink

@@ -1,0 +1,3 @@
+-- What the proofs of `rows` share, by module.
+pub mod Group
+pub mod Going
