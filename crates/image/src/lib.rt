@@ -1,6 +1,6 @@
 // Pixels from a text: the header, then the rows of cells, into lent buffers.
 ghost use mathlib.Core.Path.{_≡_};
-ghost use Prim.Native.Nat.{_+_, _*_, _≤_, min};
+ghost use Prim.Native.Nat.{_+_, _*_, _≤_, _<_, min};
 ghost use lib.ListN.{length, take};
 ghost use Rattle.lexical.specs.Lexical.{toldByte};
 ghost use Rattle.hex.specs.Hex.{hexOf, hexTable};
@@ -9,7 +9,7 @@ ghost use Rattle.image.specs.Cells.{ink};
 ghost use Rattle.image.specs.Ink.{inkAt, inkOf};
 ghost use Rattle.image.specs.Limited.{limitedOf, Bounded, Limited};
 ghost use Rattle.image.specs.Stores.{dab, byteStored};
-ghost use Rattle.image.specs.Quick.{Meets};
+ghost use Rattle.image.specs.Quick.{Four, Meets};
 ghost use Rattle.image.specs.Rows.{Filled};
 ghost use Rattle.image.specs.Reading.{Sided, Pictured, Imaged};
 use decoder::read_data_byte;
@@ -65,6 +65,26 @@ pub enum Quick {
     Miss,
 }
 
+// `, 0x`, as `four_at` has it.
+const COMMA_TO_MARK: u64 = 0x7830_202c;
+
+fn wide(b: u8) -> u64
+    ensures { λ r. ⌜ (r ≡ b) × (r < 256) ⌝ }
+{
+    b as u64
+}
+
+// Four bytes from i on as one number, the first the lowest.
+fn four_at(text: &[u8], i: usize) -> u64
+    requires { ⌜ i + 4 ≤ length (now text) ⌝ }
+    ensures { λ r. ⌜ Four (now (text .entry)) i r ⌝ }
+{
+    wide(text[i])
+        + wide(text[i + 1]) * 0x100
+        + wide(text[i + 2]) * 0x1_0000
+        + wide(text[i + 3]) * 0x100_0000
+}
+
 // A digit's value by the table.
 fn hex_at(table: &[u8; 256], b: u8) -> u8
     requires { ⌜ now table ≡ hexTable ⌝ }
@@ -85,16 +105,7 @@ fn quick_byte(text: &[u8], place: TextLocation, first: bool, table: &[u8; 256]) 
         return Quick::Miss;
     }
     let i = place.byte.0 as usize;
-    if text[i] != b',' {
-        return Quick::Miss;
-    }
-    if text[i + 1] != b' ' {
-        return Quick::Miss;
-    }
-    if text[i + 2] != b'0' {
-        return Quick::Miss;
-    }
-    if text[i + 3] != b'x' {
+    if four_at(text, i) != COMMA_TO_MARK {
         return Quick::Miss;
     }
     let hi = hex_at(table, text[i + 4]);
