@@ -1,5 +1,5 @@
 -- `, 0xHH` read at once.
-use Prim.Native.Nat.{ℕ, _+_, _-_, _*_, _≤_, _<_, _^_}
+use Prim.Native.Nat.{ℕ, _+_, _-_, _*_, _/_, _%_, _≤_, _<_, _^_}
 use native.Mathlib.Omega.{arith}
 use mir.Syntax.{w64}
 use mir.Val.{Fits}
@@ -25,7 +25,7 @@ use Rattle.hex.specs.Hex.{hexOf, hexv, hexDigit, hexStart, hexDigits, hexUnit, 
 use Rattle.decoder.specs.Data.{item}
 use Rattle.rows.specs.declared.Quick.{Quick}
 use Rattle.rows.specs.declared.Quick.the-variants.{Hit, Miss}
-use Rattle.rows.specs.Quick.{Meets}
+use Rattle.rows.specs.Quick.{Four, Meets}
 
 pub miss : (d : Result ℕ) → Meets Miss d
 miss d = record { hit = λ v q e. let z : _≡_ {A = ℕ} 0 1 = cc in absurd (omega arith) }
@@ -124,21 +124,26 @@ module _ (t : List ℕ) (p : TextLocation) {r : Bool} (e : r ≡ hasLeft t p 6) 
       )
 
   -- the six bytes are in the text
-  pub six-first : byteOf p < length t
-  six-first = omega (arith, inside)
-
   pub six-inside : (k : ℕ) → k < 6 → byteOf p + k < length t
   six-inside k l = omega (arith, inside)
 
   pub six-fits : (k : ℕ) → k < 6 → length t * 1 < 2 ^ 63 → Fits w64 (byteOf p + k)
   six-fits k l m = record { fits = omega (arith, inside) }
 
-  pub quick-hit : {f : Bool} {hi lo : ℕ} {q : TextLocation} → f ≡ false → length t * 1 < 2 ^ 63
-      → getD t (byteOf p) 0 ≡ 44 → getD t (byteOf p + 1) 0 ≡ 32 → getD t (byteOf p + 2) 0 ≡ 48 → getD t (byteOf p + 3) 0 ≡ 120
+  pub four-inside : byteOf p + 4 ≤ length t
+  four-inside = omega (arith, inside)
+
+  -- the four bytes before the digits are `, 0x`
+  pub quick-hit : {f : Bool} {r hi lo : ℕ} {q : TextLocation} → f ≡ false → length t * 1 < 2 ^ 63
+      → Four t (byteOf p) r → r ≡ 2016419884
       → hi ≡ hexOf (getD t (byteOf p + 4) 0) → hi < 16 → lo ≡ hexOf (getD t (byteOf p + 5) 0) → lo < 16 → q ≡ alongLine p 6
       → Meets (Hit (hi * 16 + lo) q) (item f t p)
-  quick-hit {f} {hi} {lo} {q} hf room c0 c1 c2 c3 eh hh el hl to =
+  quick-hit {f} {r} {hi} {lo} {q} hf room four same eh hh el hl to =
       let i : byteOf p + 6 ≤ length t = inside in
+      let c0 : getD t (byteOf p) 0 ≡ 44 = omega (arith, four .first) in
+      let c1 : getD t (byteOf p + 1) 0 ≡ 32 = omega (arith, four .second) in
+      let c2 : getD t (byteOf p + 2) 0 ≡ 48 = omega (arith, four .third) in
+      let c3 : getD t (byteOf p + 3) 0 ≡ 120 = omega (arith, four .fourth) in
       let u : hexOf (getD t (byteOf p + 4) 0) < 16 = rw (← eh) hh in
       let w : hexOf (getD t (byteOf p + 5) 0) < 16 = rw (← el) hl in
       let d : ok (hi * 16 + lo) q ≡ item f t p
@@ -146,4 +151,4 @@ module _ (t : List ℕ) (p : TextLocation) {r : Bool} (e : r ≡ hasLeft t p 6) 
       (sym (six-read t p (getD t (byteOf p + 4) 0) (getD t (byteOf p + 5) 0) (drop (byteOf p + 6) t) (rw (← c0, ← c1, ← c2, ← c3) rest-six) u w)) in
       record { hit = λ v p′ y. let a : v ≡ hi * 16 + lo = cc in let b : p′ ≡ q = cc in rw (a, b) d }
 
-pub ruleset quick·laws = (miss, six-first, six-inside, six-fits, quick-hit)
+pub ruleset quick·laws = (miss, six-inside, six-fits, four-inside, quick-hit)

@@ -1,10 +1,11 @@
 // The rows of a picture: its data bytes, read into a lent buffer.
 ghost use mathlib.Core.Path.{_≡_};
-ghost use Prim.Native.Nat.{_/_};
+ghost use Prim.Native.Nat.{_+_, _/_, _≤_, _<_};
+ghost use lib.ListN.{length};
 ghost use Rattle.lexical.specs.Lexical.{toldByte};
 ghost use Rattle.hex.specs.Hex.{hexOf, hexTable};
 ghost use Rattle.decoder.specs.Data.{item};
-ghost use Rattle.rows.specs.Quick.{Meets};
+ghost use Rattle.rows.specs.Quick.{Four, Meets};
 ghost use Rattle.rows.specs.Rows.{Filled};
 use cells::unpack;
 use decoder::read_data_byte;
@@ -30,6 +31,26 @@ pub enum Quick {
     Miss,
 }
 
+// `, 0x`, as `four_at` has it.
+const COMMA_TO_MARK: u64 = 0x7830_202c;
+
+fn wide(b: u8) -> u64
+    ensures { λ r. ⌜ (r ≡ b) × (r < 256) ⌝ }
+{
+    b as u64
+}
+
+// Four bytes from i on as one number, the first the lowest.
+fn four_at(text: &[u8], i: usize) -> u64
+    requires { ⌜ i + 4 ≤ length (now text) ⌝ }
+    ensures { λ r. ⌜ Four (now (text .entry)) i r ⌝ }
+{
+    wide(text[i])
+        + wide(text[i + 1]) * 0x100
+        + wide(text[i + 2]) * 0x1_0000
+        + wide(text[i + 3]) * 0x100_0000
+}
+
 // A digit's value by the table.
 fn hex_at(table: &[u8; 256], b: u8) -> u8
     requires { ⌜ now table ≡ hexTable ⌝ }
@@ -50,16 +71,7 @@ fn quick_byte(text: &[u8], place: TextLocation, first: bool, table: &[u8; 256]) 
         return Quick::Miss;
     }
     let i = place.byte.0 as usize;
-    if text[i] != b',' {
-        return Quick::Miss;
-    }
-    if text[i + 1] != b' ' {
-        return Quick::Miss;
-    }
-    if text[i + 2] != b'0' {
-        return Quick::Miss;
-    }
-    if text[i + 3] != b'x' {
+    if four_at(text, i) != COMMA_TO_MARK {
         return Quick::Miss;
     }
     let hi = hex_at(table, text[i + 4]);
@@ -89,13 +101,13 @@ fn next_data(text: &[u8], place: TextLocation, first: bool, table: &[u8; 256]) -
 }
 
 // How many whole rows of w cells a buffer of that length has: none where w is 0.
-fn whole_rows(length: usize, w: usize) -> usize
-    ensures { λ r. ⌜ r ≡ length / w ⌝ }
+fn whole_rows(size: usize, w: usize) -> usize
+    ensures { λ r. ⌜ r ≡ size / w ⌝ }
 {
     if w == 0 {
         return 0;
     }
-    length / w
+    size / w
 }
 
 // Fills the whole rows of `width` cells that the buffer has, as far as the picture goes.
