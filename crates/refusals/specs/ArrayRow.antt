@@ -12,7 +12,7 @@ use Rattle.text.specs.Ascii.{ascii}
 use Rattle.text.specs.Place.{start, rest as restAt}
 use Rattle.text.specs.Reader.{Result, ok, stop, bad, then, Reader, _>>=_}
 use Rattle.text.specs.Leaf.{give}
-use Rattle.header.specs.Header.{Head, line, signed, widthLine, element, arrayLine, ending, header}
+use Rattle.header.specs.Header.{Head, line, signed, arrayLine, ending, header}
 use Rattle.image.specs.Reading.{reading}
 use Rattle.grammar.specs.Lang.{Lang, Word, _·_, All}
 use Rattle.grammar.specs.Grammar.{Mask, solid, Coordinate, Define, Header}

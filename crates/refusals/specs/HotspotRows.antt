@@ -17,7 +17,7 @@ use Rattle.text.specs.Reader.{ok, stop, bad, Reader, _>>=_}
 use Rattle.text.specs.Leaf.{give, fork, forkOf, choose}
 use Rattle.text.specs.Outcome.{unplaced}
 use Rattle.lexical.specs.Lexical.{leading}
-use Rattle.header.specs.Header.{Head, line, side, signed, widthLine, element, arrayLine, ending, hotspot, rest, header}
+use Rattle.header.specs.Header.{Head, line, side, signed, widthLine, ending, hotspot, rest, header}
 use Rattle.image.specs.Reading.{reading}
 use Rattle.grammar.specs.Lang.{Lang, Word, Lit, _·_, All}
 use Rattle.grammar.specs.Grammar.{Mask, solid, Side, Coordinate, Define}

@@ -13,7 +13,7 @@ use Rattle.text.specs.Place.{start}
 use Rattle.text.specs.Reader.{Result, ok, stop, bad, then, _>>=_}
 use Rattle.text.specs.Leaf.{give}
 use Rattle.text.specs.Outcome.{unplaced, outcome}
-use Rattle.header.specs.Header.{Head, widthLine, element, arrayLine, rest, header}
+use Rattle.header.specs.Header.{Head, header}
 use Rattle.image.specs.Rows.{whole}
 use Rattle.image.specs.Reading.{picture, reading}
 use Rattle.claims.specs.Numbers.{header-numbered, whole-numbered, placed-number, unplaced-number}
