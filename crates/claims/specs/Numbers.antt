@@ -157,17 +157,20 @@ pub ruleset numbers = (bind-numbered, give-numbered, need-numbered, want-numbere
 
 -- ---- the format's parts
 
-width-numbered : (limit : ℕ) → Numbered 1 5 11 22 (widthLine limit)
-unfolding widthLine
-width-numbered limit = search numbers depth 40 fits 10000
+module _ {lo hi x y : ℕ} where
+  pub width-numbered : (limit : ℕ) → within lo hi 1 ≡ true → within x y 11 ≡ true → within x y 21 ≡ true
+      → Numbered lo hi x y (widthLine limit)
+  unfolding widthLine
+  width-numbered limit s u v = search numbers depth 40 fits 10000
 
-array-numbered : (name : List ℕ) → Numbered 1 5 11 22 (arrayLine 5 name)
-unfolding arrayLine element
-array-numbered name = search numbers depth 40 fits 10000
+  pub array-numbered : (name : List ℕ) → within lo hi 5 ≡ true → Numbered lo hi x y (arrayLine 5 name)
+  unfolding arrayLine element
+  array-numbered name s = search numbers depth 40 fits 10000
 
-rest-numbered : (name : List ℕ) (w h : ℕ) → Numbered 1 5 11 22 (headerRest name w h)
-unfolding headerRest
-rest-numbered name w h = search (numbers, array-numbered) depth 60 fits 20000
+  pub rest-numbered : (name : List ℕ) (w h : ℕ) → within lo hi 3 ≡ true → within lo hi 4 ≡ true → within lo hi 5 ≡ true
+      → within x y 13 ≡ true → within x y 14 ≡ true → Numbered lo hi x y (headerRest name w h)
+  unfolding headerRest
+  rest-numbered name w h r s t u v = search (numbers, array-numbered) depth 60 fits 20000
 
 pub header-numbered : (limit : ℕ) → Numbered 1 5 11 22 (header limit)
 unfolding header

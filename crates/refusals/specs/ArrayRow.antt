@@ -12,7 +12,7 @@ use Rattle.text.specs.Ascii.{ascii}
 use Rattle.text.specs.Place.{start, rest as restAt}
 use Rattle.text.specs.Reader.{Result, ok, stop, bad, then, Reader, _>>=_}
 use Rattle.text.specs.Leaf.{give}
-use Rattle.lines.specs.Lines.{line, signed, widthLine, element, arrayLine}
+use Rattle.lines.specs.Lines.{line, signed, arrayLine}
 use Rattle.header.specs.Header.{Head, ending, header}
 use Rattle.image.specs.Reading.{reading}
 use Rattle.grammar.specs.Lang.{Lang, Word, _·_, All}
@@ -24,7 +24,7 @@ use Rattle.grammar.specs.Pieces.{begins-any}
 use Rattle.grammar.specs.Lines.{hot-fits}
 use Rattle.grammar.specs.Headers.{header-exactly}
 use Rattle.claims.specs.Terms.{Begun}
-use Rattle.claims.specs.Numbers.{Numbered, numbers, placed-number, unplaced-number}
+use Rattle.claims.specs.Numbers.{Numbered, numbers, width-numbered, array-numbered, placed-number, unplaced-number}
 use Rattle.refusals.specs.Terms.{NoArrayLine, Placed, No}
 use Rattle.refusals.specs.Stages.{both-ways, given, chain, at-parts, read-at, later-stop, begun}
 use Rattle.refusals.specs.Lines.{define-begins}
@@ -59,12 +59,11 @@ unfolding third fourth
 fourth-hot limit = sym (chain _ _ (λ b. after-x (b .0) (b .1)) (λ a. chain _ _ _ (λ x. given (a, x) (λ b. after-x (b .0) (b .1))))) ∙ sym (chain (third limit) _ done (λ b. chain _ _ done (λ y. given (b, y) done)))
 
 pub fourth-numbered : (limit : ℕ) → Numbered 1 4 11 22 (fourth limit)
-unfolding fourth third second first widthLine
-fourth-numbered limit = search numbers depth 80 fits 40000
+unfolding fourth third second first
+fourth-numbered limit = search (numbers, width-numbered) depth 40 fits 10000
 
 array-5 : (name : List ℕ) → Numbered 5 5 1 0 (arrayLine 5 name)
-unfolding arrayLine element
-array-5 name = search numbers depth 40 fits 10000
+array-5 name = array-numbered name refl
 
 -- the array line is there, or the refusal is 5
 ending-case : (name : List ℕ) (w h : ℕ) (o : Option (ℤ × ℤ)) (t : List ℕ) (i : TextLocation) → ((e : TextLocation) × (ending name w h o t i ≡ ok (record { name = name; width = w; height = h; hot = o }) e)) ⊎ ((q : TextLocation) × (ending name w h o t i ≡ stop 5 q))

@@ -4,17 +4,18 @@ use mathlib.Core.Logic.{_↔_}
 use Prim.Native.Nat.{ℕ, zero, suc, _+_, _-_, _*_, _≤_}
 use native.Mathlib.Omega.{arith}
 use mathlib.Core.Option.{Option, none, some}
-use mathlib.Core.Bool.{true}
+use mathlib.Core.Bool.{true, false}
 use mathlib.Core.List.{List, [], _∷_, _++_}
 use lib.ListN.{length}
+use lib.Dec.{eqb}
 use Rattle.text.specs.declared.TextLocation.{TextLocation}
 use Rattle.text.specs.Ascii.{ascii}
 use Rattle.text.specs.Place.{start}
-use Rattle.text.specs.Reader.{Result, ok, stop, bad, then, Reader, _>>=_, _>>_}
+use Rattle.text.specs.Reader.{Result, ok, stop, bad, then, Reader, _>>=_, _>>_, Mild}
 use Rattle.text.specs.Leaf.{give, need}
 use Rattle.text.specs.Outcome.{Outcome, refused, unplaced, outcome}
 use Rattle.lexical.specs.Lexical.{locals, milds, leading}
-use Rattle.lines.specs.Lines.{line-laws, side, positive, widthLine, element, arrayLine}
+use Rattle.lines.specs.Lines.{line-laws, element-local, element-mild, side, positive, widthLine, arrayLine}
 use Rattle.header.specs.Header.{Head, rest, header}
 use Rattle.rows.specs.Rows.{whole}
 use Rattle.image.specs.Reading.{picture, reading}
@@ -25,12 +26,27 @@ use Rattle.grammar.specs.Fits.{Any, Fits, fit-run}
 use Rattle.grammar.specs.Pieces.{leading-fits}
 use Rattle.grammar.specs.Lines.{width-fits}
 use Rattle.claims.specs.Terms.{Begun}
-use Rattle.claims.specs.Numbers.{Numbered, numbers, whole-numbered, placed-number, unplaced-number}
+use Rattle.claims.specs.Numbers.{Numbered, numbers, width-numbered, rest-numbered, whole-numbered, placed-number, unplaced-number}
 use Rattle.refusals.specs.Terms.{NoWidthLine, BadWidth, ZeroWidth, NoHeightLine, BadHeight, ZeroHeight, Token, Front, Second, NoSide, Placed}
 use Rattle.refusals.specs.Stages.{both-ways, assoc, Quiet, quiet-mild, quiet-bind, quiet-need, quiet-fork, need-none, need-some, stage-stop, stage-bad, after-stop, after-bad, begun}
 use Rattle.refusals.specs.Lines.{known, known-fits, front, front-fits, widths, raw, define-begins, line-is, wide, next, header-is}
 
-pub ruleset quiets = (quiet-bind, quiet-need, quiet-fork, quiet-mild, milds, locals, line-laws)
+-- ---- the numbers that a line cannot have
+
+pub array-mild : (name : List ℕ) → Mild (arrayLine 5 name)
+unfolding arrayLine
+array-mild name = search (milds, locals, line-laws, element-local, element-mild) depth 30 fits 3000
+
+pub ruleset quiets = (quiet-bind, quiet-need, quiet-fork, quiet-mild, milds, locals, line-laws, array-mild)
+
+module _ {d : ℕ} where
+  pub width-quiet : (limit : ℕ) → eqb 11 d ≡ false → eqb 21 d ≡ false → Quiet d (widthLine limit)
+  unfolding widthLine
+  width-quiet limit x y = search quiets depth 40 fits 10000
+
+  pub rest-quiet : (name : List ℕ) (w h : ℕ) → eqb 13 d ≡ false → eqb 14 d ≡ false → Quiet d (rest name w h)
+  unfolding rest
+  rest-quiet name w h x y = search quiets depth 60 fits 20000
 
 -- ---- what is told of a header's refusal
 
@@ -107,16 +123,14 @@ zero-token (x ∷ y ∷ w) (n, (a, u), v) = absurd (n (omega (arith, a, value-up
 -- ---- the width line
 
 next-quiet : (nw : List ℕ × ℕ) → Quiet 21 (next nw)
-unfolding rest arrayLine element
-next-quiet nw = search quiets depth 80 fits 40000
+next-quiet nw = search (quiets, rest-quiet) depth 40 fits 10000
 
 front-numbered : (limit : ℕ) → Numbered 1 1 1 0 (front limit)
 unfolding front widths raw
 front-numbered limit = search numbers depth 40 fits 10000
 
 pub wide-numbered : (p : List ℕ × List ℕ) → Numbered 2 5 11 22 (wide p >>= next)
-unfolding rest arrayLine element
-wide-numbered p = search numbers depth 80 fits 40000
+wide-numbered p = search (numbers, rest-numbered) depth 40 fits 10000
 
 front-quiet : (limit d : ℕ) → Quiet d (front limit)
 unfolding front widths raw
@@ -131,7 +145,7 @@ module _ (name w : List ℕ) (t : List ℕ) (m : TextLocation) where
   wide-11 = rw (assoc (need 11 (number w)) sized next) (both-ways (need-none (number w) (λ v. sized v >>= next) 11 t m quiet-11) (none-side w))
     where
       quiet-11 : (v : ℕ) → Quiet 11 (sized v >>= next)
-      quiet-11 v = unfold rest arrayLine element in search quiets depth 80 fits 40000
+      quiet-11 v = search (quiets, rest-quiet) depth 40 fits 10000
 
   -- 21: it is 0
   wide-21 : ((q : TextLocation) × ((wide (name, w) >>= next) t m ≡ bad 21 q)) ↔ Decimal 0 w
@@ -187,8 +201,8 @@ unfolding Define Symbol _·_
 front-name limit name N w (a, b, q, k, (u, v, o, l, (u1, v1, q1, k1, (u2, v2, q2, k2, m)))) = k2 .1
 
 pub first-numbered : (limit : ℕ) → Numbered 1 1 11 22 (first limit)
-unfolding first widthLine
-first-numbered limit = search numbers depth 40 fits 10000
+unfolding first
+first-numbered limit = search (numbers, width-numbered)
 
 -- what is made of the height line's token
 abbrev pub high : List ℕ × ℕ → List ℕ → Reader Head
@@ -209,24 +223,19 @@ unfolding known raw
 heights-numbered name = search numbers depth 40 fits 10000
 
 pub high-numbered : (nw : List ℕ × ℕ) (w : List ℕ) → Numbered 3 5 12 22 (high nw w)
-unfolding rest arrayLine element
-high-numbered nw w = search numbers depth 80 fits 40000
+high-numbered nw w = search (numbers, rest-numbered)
 
 pub known-quiet : (c d : ℕ) (name z : List ℕ) → Quiet d (known c name z)
 unfolding known raw
 known-quiet c d name z = search quiets depth 40 fits 10000
 
 first-12 : (limit : ℕ) → Quiet 12 (first limit)
-unfolding first widthLine
-first-12 limit = search quiets depth 40 fits 10000
+unfolding first
+first-12 limit = search (quiets, width-quiet)
 
 first-22 : (limit : ℕ) → Quiet 22 (first limit)
-unfolding first widthLine
-first-22 limit = search quiets depth 40 fits 10000
-
-rest-quiet : (name : List ℕ) (w h : ℕ) → Quiet 22 (rest name w h)
-unfolding rest arrayLine element
-rest-quiet name w h = search quiets depth 80 fits 40000
+unfolding first
+first-22 limit = search (quiets, width-quiet)
 
 module _ (nw : List ℕ × ℕ) (w : List ℕ) (t : List ℕ) (m : TextLocation) where
   abbrev tall : ℕ → Reader Head
@@ -239,13 +248,13 @@ module _ (nw : List ℕ × ℕ) (w : List ℕ) (t : List ℕ) (m : TextLocation)
   high-12 = rw sizing (both-ways (need-none (number w) (λ v. need 22 (positive v) >>= tall) 12 t m quiet-12) (none-side w))
     where
       quiet-12 : (v : ℕ) → Quiet 12 (need 22 (positive v) >>= tall)
-      quiet-12 v = unfold rest arrayLine element in search quiets depth 80 fits 40000
+      quiet-12 v = search (quiets, rest-quiet)
 
   high-22 : ((q : TextLocation) × (high nw w t m ≡ bad 22 q)) ↔ Decimal 0 w
   high-22 = rw sizing (both-ways (need-some (number w) (λ v. need 22 (positive v) >>= tall) 12 22 t m (λ q. omega arith)) ((λ (v, q, x). there v q x), λ d. (0, decimal→number w 0 d (omega arith), zero-is 0 .1 refl)))
     where
       zero-is : (v : ℕ) → ((q : TextLocation) × ((need 22 (positive v) >>= tall) t m ≡ bad 22 q)) ↔ (v ≡ 0)
-      zero-is v = both-ways (need-none (positive v) tall 22 t m (rest-quiet (nw .0) (nw .1))) (none-positive v)
+      zero-is v = both-ways (need-none (positive v) tall 22 t m (λ h. rest-quiet (nw .0) (nw .1) h refl refl)) (none-positive v)
 
       there : (v : ℕ) → number w ≡ some v → (q : TextLocation) × ((need 22 (positive v) >>= tall) t m ≡ bad 22 q) → Decimal 0 w
       there v q x = let z : v ≡ 0 = zero-is v .0 x in rw z at (number→decimal w v q .0)

@@ -17,7 +17,7 @@ use Rattle.text.specs.Reader.{ok, stop, bad, Reader, _>>=_}
 use Rattle.text.specs.Leaf.{give, fork, forkOf, choose}
 use Rattle.text.specs.Outcome.{unplaced}
 use Rattle.lexical.specs.Lexical.{leading}
-use Rattle.lines.specs.Lines.{line, side, signed, widthLine, element, arrayLine}
+use Rattle.lines.specs.Lines.{line, side, signed, widthLine}
 use Rattle.header.specs.Header.{Head, ending, hotspot, rest, header}
 use Rattle.image.specs.Reading.{reading}
 use Rattle.grammar.specs.Lang.{Lang, Word, Lit, _·_, All}
@@ -27,11 +27,11 @@ use Rattle.grammar.specs.Fits.{Any, Next, At, Fits, Begins, fit-drop, fit-bind,
 use Rattle.grammar.specs.Pieces.{begins-any}
 use Rattle.grammar.specs.Lines.{height-fits, hot-fits}
 use Rattle.claims.specs.Terms.{Begun}
-use Rattle.claims.specs.Numbers.{Numbered, numbers, placed-number, unplaced-number}
+use Rattle.claims.specs.Numbers.{Numbered, numbers, width-numbered, array-numbered, placed-number, unplaced-number}
 use Rattle.refusals.specs.Terms.{NoXLine, BadX, NoYLine, BadY, Token, Front, No, NoCoordinate, Placed}
 use Rattle.refusals.specs.Stages.{both-ways, assoc, given, chain, Quiet, stop-second, bad-second, need-none, at-both, at-parts, stage-stop, later-stop, later-bad, one-end, none-after, after-stop, after-bad, begun}
 use Rattle.refusals.specs.Lines.{known, known-fits, raw, define-begins, line-is}
-use Rattle.refusals.specs.HeaderRows.{quiets, told-stop, told-bad, begun-out, begun-in, first, first-fits, front-name, known-quiet}
+use Rattle.refusals.specs.HeaderRows.{quiets, width-quiet, told-stop, told-bad, begun-out, begun-in, first, first-fits, front-name, known-quiet}
 
 -- ---- the header up to the height line's end
 
@@ -122,24 +122,22 @@ unfolding known raw
 hot-x-numbered name = search numbers depth 40 fits 10000
 
 pub left-numbered : (a : Three) (w : List ℕ) → Numbered 4 5 13 14 (left a w)
-unfolding arrayLine element
-left-numbered a w = search numbers depth 80 fits 40000
+left-numbered a w = search (numbers, array-numbered) depth 40 fits 10000
 
 pub plain-numbered : (a : Three) → Numbered 5 5 1 0 (plain a)
-unfolding arrayLine element
-plain-numbered a = search numbers depth 80 fits 40000
+plain-numbered a = search (numbers, array-numbered)
 
 pub second-numbered : (limit : ℕ) → Numbered 1 2 11 22 (second limit)
-unfolding second first widthLine
-second-numbered limit = search numbers depth 80 fits 40000
+unfolding second first
+second-numbered limit = search (numbers, width-numbered) depth 40 fits 10000
 
 second-13 : (limit : ℕ) → Quiet 13 (second limit)
-unfolding second first widthLine
-second-13 limit = search quiets depth 80 fits 40000
+unfolding second first
+second-13 limit = search (quiets, width-quiet) depth 40 fits 10000
 
 second-14 : (limit : ℕ) → Quiet 14 (second limit)
-unfolding second first widthLine
-second-14 limit = search quiets depth 80 fits 40000
+unfolding second first
+second-14 limit = search (quiets, width-quiet) depth 40 fits 10000
 
 module _ (limit : ℕ) (a : Three) (t : List ℕ) (m : TextLocation) (s : All solid (a .0 .0)) where
   -- such a line begins with `#`
@@ -191,7 +189,7 @@ left-13 : (a : Three) (w t : List ℕ) (m : TextLocation) → ((q : TextLocation
 left-13 a w t m = both-ways (need-none (integer w) (after-x a) 13 t m quiet-13) (none-coordinate w)
   where
     quiet-13 : (x : ℤ) → Quiet 13 (after-x a x)
-    quiet-13 x = unfold arrayLine element in search quiets depth 80 fits 40000
+    quiet-13 x = search quiets depth 40 fits 10000
 
 -- ---- the line for `_y_hot`
 
@@ -239,22 +237,21 @@ unfolding known raw
 hot-y-numbered name = search numbers depth 40 fits 10000
 
 pub right-numbered : (b : Four) (w : List ℕ) → Numbered 5 5 14 14 (right b w)
-unfolding arrayLine element
-right-numbered b w = search numbers depth 80 fits 40000
+right-numbered b w = search (numbers, array-numbered)
 
 pub third-numbered : (limit : ℕ) → Numbered 1 3 11 22 (third limit)
-unfolding third second first widthLine
-third-numbered limit = search numbers depth 80 fits 40000
+unfolding third second first
+third-numbered limit = search (numbers, width-numbered) depth 40 fits 10000
 
 third-14 : (limit : ℕ) → Quiet 14 (third limit)
-unfolding third second first widthLine
-third-14 limit = search quiets depth 80 fits 40000
+unfolding third second first
+third-14 limit = search (quiets, width-quiet) depth 40 fits 10000
 
 right-14 : (b : Four) (w t : List ℕ) (m : TextLocation) → ((q : TextLocation) × (right b w t m ≡ bad 14 q)) ↔ NoCoordinate w
 right-14 b w t m = both-ways (need-none (integer w) (λ y. ending (b .0 .0 .0) (b .0 .0 .1) (b .0 .1) (some (b .1, y))) 14 t m quiet-14) (none-coordinate w)
   where
     quiet-14 : (y : ℤ) → Quiet 14 (ending (b .0 .0 .0) (b .0 .0 .1) (b .0 .1) (some (b .1, y)))
-    quiet-14 y = unfold arrayLine element in search quiets depth 80 fits 40000
+    quiet-14 y = search quiets
 
 -- ---- the rows
 

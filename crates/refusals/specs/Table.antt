@@ -13,18 +13,17 @@ use Rattle.text.specs.Place.{start}
 use Rattle.text.specs.Reader.{Result, ok, stop, bad, then, _>>=_}
 use Rattle.text.specs.Leaf.{give}
 use Rattle.text.specs.Outcome.{unplaced, outcome}
-use Rattle.lines.specs.Lines.{widthLine, element, arrayLine}
-use Rattle.header.specs.Header.{Head, rest, header}
+use Rattle.header.specs.Header.{Head, header}
 use Rattle.rows.specs.Rows.{whole}
 use Rattle.image.specs.Reading.{picture, reading}
 use Rattle.claims.specs.Numbers.{header-numbered, whole-numbered, placed-number, unplaced-number}
 use Rattle.refusals.specs.Stages.{Quiet}
 use Rattle.refusals.specs.Terms.{InTable}
-use Rattle.refusals.specs.HeaderRows.{quiets}
+use Rattle.refusals.specs.HeaderRows.{quiets, width-quiet, rest-quiet}
 
 header-quiet : (limit c : ℕ) → eqb 11 c ≡ false → eqb 12 c ≡ false → eqb 13 c ≡ false → eqb 14 c ≡ false → eqb 21 c ≡ false → eqb 22 c ≡ false → Quiet c (header limit)
-unfolding header widthLine rest arrayLine element
-header-quiet limit c a b d e f g = search quiets depth 90 fits 90000
+unfolding header
+header-quiet limit c a b d e f g = search (quiets, width-quiet, rest-quiet) depth 40 fits 10000
 
 pub in-table : (text name pixels : List ℕ) → InTable (reading text name pixels .answer)
 unfolding reading picture _>>=_ give

@@ -2,14 +2,14 @@
 ghost use Prim.Native.Nat.{_≤_};
 use crate::buffers::fill;
 use crate::buffers::sum;
-use crate::record::ROOM;
-use crate::record::Told;
 use error::Refusal;
 use error::refusal_of;
 use header::Hotspot;
 use header::XbmHeaderData;
 use image::ImageRead;
 use image::read_image;
+use stored::ROOM;
+use stored::Told;
 use text::TextLocation;
 
 // A number and no more.

@@ -1,21 +1,20 @@
 // Replays the stored answers of the original, data/answers.bin, and says where ours differ.
 use answer::answer;
-use record::NUMBERS;
-use record::RECORD;
-use record::ROOM;
-use record::Record;
-use record::Verdict;
-use record::compare;
-use record::number_at;
-use record::read_record;
 use report::is_given;
 use report::print_difference;
 use report::print_malformed;
 use report::print_summary;
+use stored::NUMBERS;
+use stored::RECORD;
+use stored::ROOM;
+use stored::Record;
+use stored::Verdict;
+use stored::compare;
+use stored::number_at;
+use stored::read_record;
 
 mod answer;
 mod buffers;
-mod record;
 mod report;
 
 // The count of cases that a list begins with, and 0 if it begins otherwise.

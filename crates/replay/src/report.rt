@@ -1,7 +1,7 @@
 // What the program prints.
-use crate::record::NUMBERS;
-use crate::record::Verdict;
 use libc::STDOUT_FILENO;
+use stored::NUMBERS;
+use stored::Verdict;
 
 fn print(bytes: &[u8]) {
     io::write_all(STDOUT_FILENO, bytes);

@@ -20,8 +20,9 @@ use Rattle.header.specs.Header.{rest as restLines, header}
 use Rattle.decoder.specs.Data.{item, items, brace, closing, tail, trailer}
 use Rattle.rows.specs.Rows.{whole}
 use Rattle.image.specs.Reading.{picture, reading}
-use Rattle.xbm_c.specs.declared.Summary.{Summary}
-use Rattle.xbm_c.specs.Report.{Tells, headerTold, imageTold, reportOf, coordinates}
+use Rattle.report.specs.declared.Summary.{Summary}
+use Rattle.report.specs.Report.{reportOf, coordinates}
+use Rattle.xbm_c.specs.Told.{Tells, headerTold, imageTold}
 
 -- what is handed back: a result, a report, a hotspot
 pub record Numbers : Type 0 where

@@ -13,7 +13,8 @@ use Rattle.hex.specs.Hex.{hexOf, hexv, hexDigit, isMark, hexStart, hexDigits, h
 use Rattle.decoder.specs.declared.XbmStreamDecoder.{XbmStreamDecoder}
 use Rattle.decoder.specs.Data.{item, brace, closing, tail, trailer}
 use Rattle.decoder.specs.Step.{foreign, called, stepOf}
-use Rattle.xbm_c.specs.Next.{reported, resultAt, decoderAt, reportAt}
+use Rattle.report.specs.Next.{reported}
+use Rattle.xbm_c.specs.Next.{resultAt, decoderAt, reportAt}
 
 abbrev mask : List ℕ
 mask = ascii "#define d_width 9\n#define d_height 1\nstatic char d_bits[] = {0x01,0x00};\n"

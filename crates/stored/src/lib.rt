@@ -1,5 +1,7 @@
-// A record of the list: what is lent in a case, and what the original answered. docs/REPLAY.md tells the format.
+// A record of the stored answers: what is lent in a case, and what the original answered. docs/REPLAY.md tells the format.
+ghost use mathlib.Core.Path.{_≡_};
 ghost use Prim.Native.Nat.{_<_};
+ghost use Rattle.stored.specs.Record.{byteAt, numberAt, toldIn, recordIn, nameOn, hotspotOn, sidesOn, placeOn, verdictOn};
 
 // The bytes of a record.
 pub const RECORD: usize = 60;
@@ -48,14 +50,14 @@ pub enum Verdict {
 }
 
 fn wide(b: u8) -> u64
-    ensures { λ r. ⌜ r < 256 ⌝ }
+    ensures { λ r. ⌜ (r ≡ b) × (r < 256) ⌝ }
 {
     b as u64
 }
 
 // The byte at i, and 0 past the end.
 fn byte_at(bytes: &[u8], i: usize) -> u64
-    ensures { λ r. ⌜ r < 256 ⌝ }
+    ensures { λ r. ⌜ (r ≡ byteAt (now (bytes .entry)) i) × (r < 256) ⌝ }
 {
     if i < bytes.len() {
         return wide(bytes[i]);
@@ -64,7 +66,9 @@ fn byte_at(bytes: &[u8], i: usize) -> u64
 }
 
 // The number in the four bytes from i on, the least first, and 0 past a record's end.
-pub fn number_at(bytes: &[u8], i: usize) -> u64 {
+pub fn number_at(bytes: &[u8], i: usize) -> u64
+    ensures { λ r. ⌜ r ≡ numberAt (now (bytes .entry)) i ⌝ }
+{
     if i >= RECORD {
         return 0;
     }
@@ -73,7 +77,9 @@ pub fn number_at(bytes: &[u8], i: usize) -> u64 {
     low + high * 65536
 }
 
-fn read_told(bytes: &[u8]) -> Told {
+fn read_told(bytes: &[u8]) -> Told
+    ensures { λ r. ⌜ r ≡ toldIn (now (bytes .entry)) ⌝ }
+{
     Told {
         number: number_at(bytes, 12),
         byte: number_at(bytes, 16),
@@ -90,7 +96,9 @@ fn read_told(bytes: &[u8]) -> Told {
     }
 }
 
-pub fn read_record(bytes: &[u8]) -> Record {
+pub fn read_record(bytes: &[u8]) -> Record
+    ensures { λ r. ⌜ r ≡ recordIn (now (bytes .entry)) ⌝ }
+{
     Record {
         brought: number_at(bytes, 0),
         length: number_at(bytes, 4),
@@ -99,34 +107,10 @@ pub fn read_record(bytes: &[u8]) -> Record {
     }
 }
 
-pub fn compare(ours: Told, original: Told) -> Verdict {
-    if ours.number != original.number {
-        return Verdict::Number;
-    }
-    if ours.byte != original.byte {
-        return Verdict::Place;
-    }
-    if ours.line != original.line {
-        return Verdict::Place;
-    }
-    if ours.column != original.column {
-        return Verdict::Place;
-    }
-    if ours.width != original.width {
-        return Verdict::Sides;
-    }
-    if ours.height != original.height {
-        return Verdict::Sides;
-    }
-    if ours.hotspot != original.hotspot {
-        return Verdict::Hotspot;
-    }
-    if ours.x != original.x {
-        return Verdict::Hotspot;
-    }
-    if ours.y != original.y {
-        return Verdict::Hotspot;
-    }
+// What differs first, in the name or the cells.
+fn compare_name(ours: Told, original: Told) -> Verdict
+    ensures { λ r. ⌜ r ≡ nameOn ours original ⌝ }
+{
     if ours.name != original.name {
         return Verdict::Name;
     }
@@ -137,4 +121,59 @@ pub fn compare(ours: Told, original: Told) -> Verdict {
         return Verdict::Cells;
     }
     Verdict::Same
+}
+
+// In the hotspot, or in those.
+fn compare_hotspot(ours: Told, original: Told) -> Verdict
+    ensures { λ r. ⌜ r ≡ hotspotOn ours original ⌝ }
+{
+    if ours.hotspot != original.hotspot {
+        return Verdict::Hotspot;
+    }
+    if ours.x != original.x {
+        return Verdict::Hotspot;
+    }
+    if ours.y != original.y {
+        return Verdict::Hotspot;
+    }
+    compare_name(ours, original)
+}
+
+// In the sides, or in those.
+fn compare_sides(ours: Told, original: Told) -> Verdict
+    ensures { λ r. ⌜ r ≡ sidesOn ours original ⌝ }
+{
+    if ours.width != original.width {
+        return Verdict::Sides;
+    }
+    if ours.height != original.height {
+        return Verdict::Sides;
+    }
+    compare_hotspot(ours, original)
+}
+
+// In the place, or in those.
+fn compare_place(ours: Told, original: Told) -> Verdict
+    ensures { λ r. ⌜ r ≡ placeOn ours original ⌝ }
+{
+    if ours.byte != original.byte {
+        return Verdict::Place;
+    }
+    if ours.line != original.line {
+        return Verdict::Place;
+    }
+    if ours.column != original.column {
+        return Verdict::Place;
+    }
+    compare_sides(ours, original)
+}
+
+// What differs first between our answer and the original's, in the order of the verdicts.
+pub fn compare(ours: Told, original: Told) -> Verdict
+    ensures { λ r. ⌜ r ≡ verdictOn ours original ⌝ }
+{
+    if ours.number != original.number {
+        return Verdict::Number;
+    }
+    compare_place(ours, original)
 }

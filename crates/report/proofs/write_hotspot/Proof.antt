@@ -1,8 +1,8 @@
 -- `write_hotspot` meets its contract: both coordinates, or two zeros.
-use Rattle.xbm_c.proofs.Laws.{written·laws}
+use Rattle.report.proofs.Laws.{written·laws}
 use borrow.Author.Needs.{needs}
-use Rattle.xbm_c.proofs.write_hotspot.Statement.{statement}
-use Rattle.xbm_c.proofs.write_hotspot.Tie as tie
+use Rattle.report.proofs.write_hotspot.Statement.{statement}
+use Rattle.report.proofs.write_hotspot.Tie as tie
 
 enum-told : tie.Need-enum-told
 enum-told c = search needs

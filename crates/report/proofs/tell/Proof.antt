@@ -1,4 +1,4 @@
--- `xbm_c::tell` meets its contract: in each arm the answer is the arm's, at which the definitions compute.
+-- `tell` meets its contract: in each arm the answer is the arm's, at which the definitions compute.
 use Prim.Native.Nat.{ℕ}
 use mathlib.Core.Path.{_≡_, ap, _∙_}
 use mathlib.Core.List.{List}
@@ -10,10 +10,10 @@ use Rattle.decoder.specs.declared.XbmStreamDecoder.{XbmStreamDecoder}
 use Rattle.decoder.specs.declared.NextByte.{NextByte}
 use Rattle.decoder.specs.declared.NextByte.the-variants.{Byte, Done, Refused, Foreign}
 use Rattle.decoder.specs.Step.{toldNext}
-use Rattle.xbm_c.specs.Next.{reported, nextNumber, nextReport}
+use Rattle.report.specs.Next.{reported, nextNumber, nextReport}
 use Rattle.text.specs.Place.{nowhere}
-use Rattle.xbm_c.proofs.tell.Statement.{statement}
-use Rattle.xbm_c.proofs.tell.Tie as tie
+use Rattle.report.proofs.tell.Statement.{statement}
+use Rattle.report.proofs.tell.Tie as tie
 
 -- the report in each arm, and the number of a refusal
 module _ (a : NextByte) (d : XbmStreamDecoder) {l : List ℕ} where

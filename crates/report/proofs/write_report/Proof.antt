@@ -1,8 +1,8 @@
 -- `write_report` meets its contract: the eight numbers in the order of include/xbm.h.
-use Rattle.xbm_c.proofs.Laws.{written·laws}
+use Rattle.report.proofs.Laws.{written·laws}
 use borrow.Author.Needs.{needs}
-use Rattle.xbm_c.proofs.write_report.Statement.{statement}
-use Rattle.xbm_c.proofs.write_report.Tie as tie
+use Rattle.report.proofs.write_report.Statement.{statement}
+use Rattle.report.proofs.write_report.Tie as tie
 
 cast-width : tie.Need-cast-width
 cast-width c = search needs

@@ -1,0 +1,2 @@
+-- What the proofs of `report` share, by module.
+pub mod Laws

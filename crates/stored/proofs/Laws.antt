@@ -1,0 +1,45 @@
+-- One law for each way through a byte, a number, a record and a test of two numbers.
+use mathlib.Core.Path.{_≡_, sym}
+use Prim.Native.Nat.{ℕ, _+_, _*_, _≤_, _<_}
+use mathlib.Core.List.{List}
+use lib.ListN.{length, List·getD-eq-default}
+use borrow.Author.Tests.{le-leb, lt-leb, eq-eqb, ne-eqb}
+use Rattle.stored.specs.declared.Told.{Told}
+use Rattle.stored.specs.declared.Record.{Record}
+use Rattle.stored.specs.declared.Verdict.{Verdict}
+use Rattle.stored.specs.Record.{byteAt, numberAt, toldIn, recordIn, unless}
+
+module _ (w : List ℕ) (i : ℕ) where
+  pub byte-past : length w ≤ i → 0 ≡ byteAt w i
+  byte-past h = sym (List·getD-eq-default w 0 h)
+
+  pub number-past : 60 ≤ i → 0 ≡ numberAt w i
+  unfolding numberAt
+  number-past h = rw (le-leb 60 i h)
+
+  pub number-in : {a b c d : ℕ} → i < 60 → a ≡ byteAt w i → b ≡ byteAt w (i + 1) → c ≡ byteAt w (i + 2) → d ≡ byteAt w (i + 3)
+      → a + b * 256 + (c + d * 256) * 65536 ≡ numberAt w i
+  unfolding numberAt
+  number-in h p q r s = rw (lt-leb 60 i h, p, q, r, s)
+
+module _ (w : List ℕ) where
+  pub told-is : {a b c d e f g h i j k l : ℕ}
+      → a ≡ numberAt w 12 → b ≡ numberAt w 16 → c ≡ numberAt w 20 → d ≡ numberAt w 24 → e ≡ numberAt w 28 → f ≡ numberAt w 32
+      → g ≡ numberAt w 36 → h ≡ numberAt w 40 → i ≡ numberAt w 44 → j ≡ numberAt w 48 → k ≡ numberAt w 52 → l ≡ numberAt w 56
+      → _≡_ {A = Told} (record { number = a; byte = b; line = c; column = d; width = e; height = f; name = g; hotspot = h; x = i; y = j; «name_sum» = k; «pixel_sum» = l }) (toldIn w)
+  told-is p1 p2 p3 p4 p5 p6 p7 p8 p9 p10 p11 p12 = rw (p1, p2, p3, p4, p5, p6, p7, p8, p9, p10, p11, p12)
+
+  pub record-is : {a b c : ℕ} {d : Told} → a ≡ numberAt w 0 → b ≡ numberAt w 4 → c ≡ numberAt w 8 → d ≡ toldIn w
+      → _≡_ {A = Record} (record { brought = a; length = b; cells = c; told = d }) (recordIn w)
+  record-is p q r s = rw (p, q, r, s)
+
+module _ (m n : ℕ) (v w : Verdict) where
+  pub unless-differs : (m ≡ n → ⊥) → v ≡ unless m n v w
+  unfolding unless
+  unless-differs h = rw (ne-eqb m n h)
+
+  pub unless-same : {z : Verdict} → m ≡ n → z ≡ w → z ≡ unless m n v w
+  unfolding unless
+  unless-same h q = rw (eq-eqb m n h) q
+
+pub ruleset verdict·laws = (unless-differs, unless-same)

@@ -1,0 +1,2 @@
+-- What the proofs of `stored` share, by module.
+pub mod Laws

@@ -1,0 +1,2 @@
+-- The definitions of `stored`, by module.
+pub mod Record
