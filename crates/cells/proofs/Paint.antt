@@ -56,7 +56,7 @@ dab-out s b (suc n) p c h =
 
 -- ---- which cells those are: a number's quotient and rest are the only ones
 
-divmod : (m y r : ℕ) → 0 < m → r < m → ((y * m + r) / m ≡ y) × ((y * m + r) % m ≡ r)
+pub divmod : (m y r : ℕ) → 0 < m → r < m → ((y * m + r) / m ≡ y) × ((y * m + r) % m ≡ r)
 divmod m y r hm hr =
     (mul-add-div-right hm y r ∙ ap (λ (k : ℕ). y + k) (div-eq-of-lt hr) ∙ omega arith, mul-add-mod-self-right y m r ∙ mod-eq-of-lt hr)
 

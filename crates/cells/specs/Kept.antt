@@ -1,6 +1,6 @@
 -- What no data byte reaches: a remainder shorter than a row, and the cells of rows past the picture.
 use mathlib.Core.Path.{_≡_, refl}
-use Prim.Native.Nat.{ℕ, zero, suc, _+_, _*_, _/_, _%_, _≤_, _<_, min}
+use Prim.Native.Nat.{ℕ, zero, suc, _*_, _/_, _≤_, _<_, min}
 use native.Mathlib.Omega.{arith}
 use native.Mathlib.Nat.{div-add-mod', mod-lt, mul-le-mul-right, lt-of-mul-lt-mul-right, suc-mul, le-of-suc-le-suc, not-suc-le-zero}
 use mathlib.Core.Bool.{Bool, false}

@@ -19,7 +19,9 @@ use Rattle.symbol.specs.Symbol.{stored}
 use Rattle.header.specs.Header.{Head, header, header-local, header-firm}
 use Rattle.decoder.specs.Data.{tail, Log}
 use Rattle.cells.specs.Cells.{painted}
-use Rattle.image.specs.Reading.{nameIn, Reading, reading}
+use Rattle.cells.specs.Kept.{at-past}
+use Rattle.image.specs.Reading.{nameIn, reading}
+use Rattle.image.proofs.Whole.{same-reading}
 use Rattle.grammar.specs.Lang.{_·_}
 use Rattle.grammar.specs.Grammar.{Mask, Header, Format}
 use Rattle.grammar.specs.Bind.{bind-stop, past-byte}
@@ -28,7 +30,7 @@ use Rattle.grammar.specs.Exact.{start-rest}
 use Rattle.claims.specs.Terms.{W, rows, Fitting, Rule, Begun, Came, symbolOf, Opening, over}
 use Rattle.claims.specs.Numbers.{placed-number}
 use Rattle.claims.specs.Logs.{none-yet, until, until-in, until-only, until-all, logIn, header-cut}
-use Rattle.claims.specs.Painted.{has, byteAt-in, byteAt-out, painted-length, in-mask, as-lent, as-rule, past-rows}
+use Rattle.claims.specs.Painted.{has, byteAt-in, painted-length, in-mask, as-lent, as-rule, past-rows}
 use Rattle.claims.specs.Semicolon.{long, writes}
 use Rattle.claims.specs.Symbol.{Lead, lead, stored-cut}
 use Rattle.claims.specs.Parts.{Parts, front-local, front-firm, front-numbered, end, semi, done, done-byte, fronted, parts}
@@ -135,7 +137,7 @@ module _ (t name pixels : List ℕ) (m : Mask) (f : Format (length name) m t) (r
               as-rule m pixels wide y i (row y hy) hi (until n log) (getD (m .bytes) (y * W m + i / 8) 0)
                   (byteAt-in (until n log) (y * W m + i / 8) a ∙ ap (λ (x : ℕ). some x) v) (has (m .bytes) (y * W m + i / 8) hk),
             )
-        go (no l) = inr ((λ c. l (came→ (length name) t m f n (y * W m + i / 8) hk c)), as-lent m pixels wide y i (row y hy) hi (until n log) (byteAt-out (until n log) (y * W m + i / 8) (short l (decLt (y * W m + i / 8) (length (until n log))))))
+        go (no l) = inr ((λ c. l (came→ (length name) t m f n (y * W m + i / 8) hk c)), as-lent m pixels wide y i (row y hy) hi (until n log) (at-past (until n log) (y * W m + i / 8) (short l (decLt (y * W m + i / 8) (length (until n log))))))
 
     fewer : length (until n log) ≤ length (m .bytes)
     fewer = go (decLt (length (m .bytes)) (length (until n log)))
@@ -188,13 +190,6 @@ module _ (t name pixels : List ℕ) (m : Mask) (f : Format (length name) m t) (r
 
   pub whole-rest : (c : ℕ) → m .height * m .width ≤ c → getElem? (reading t name pixels .pixels) c ≡ getElem? pixels c
   whole-rest c h = rw whole-painting (past-rows m pixels wide log (m .height) (omega (arith, full, held)) c h)
-
-same-reading : (a b : Reading) → a .answer ≡ b .answer → a .name ≡ b .name → a .symbol ≡ b .symbol → a .pixels ≡ b .pixels → a ≡ b
-same-reading a b p q r s =
-    ap (λ (x : Outcome Head). record { answer = x; name = a .name; symbol = a .symbol; pixels = a .pixels }) p
-    ∙ ap (λ (x : List ℕ). record { answer = b .answer; name = x; symbol = a .symbol; pixels = a .pixels }) q
-    ∙ ap (λ (x : List ℕ). record { answer = b .answer; name = b .name; symbol = x; pixels = a .pixels }) r
-    ∙ ap (λ (x : List ℕ). record { answer = b .answer; name = b .name; symbol = b .symbol; pixels = x }) s
 
 module _ (t name pixels : List ℕ) (m : Mask) (f : Format (length name) m t) (r : Fitting m pixels) (n : ℕ) (hn : n ≤ length t) where
   -- a cut with the semicolon in it writes the same mask

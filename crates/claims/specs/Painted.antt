@@ -3,7 +3,7 @@ use mathlib.Core.Path.{_≡_, refl, ap, _∙_}
 use mathlib.Core.Logic.{_⊎_, inl, inr}
 use Prim.Native.Nat.{ℕ, zero, suc, _+_, _*_, _/_, _%_, _≤_, _<_}
 use native.Mathlib.Omega.{arith}
-use native.Mathlib.Nat.{le-of-suc-le-suc, not-suc-le-zero, mul-add-div-right, mul-add-mod-self-right, div-eq-of-lt, mod-eq-of-lt, div-add-mod', le-div-iff-mul-le, mul-le-mul-right}
+use native.Mathlib.Nat.{le-of-suc-le-suc, not-suc-le-zero, div-add-mod', le-div-iff-mul-le, mul-le-mul-right}
 use mathlib.Core.Option.{Option, none, some, Option·map}
 use mathlib.Core.Bool.{Bool, true, false}
 use mathlib.Core.List.{List, [], _∷_}
@@ -13,6 +13,8 @@ use borrow.Author.Tests.{eqb-true, eqb-false}
 use Rattle.text.specs.Place.{pick}
 use Rattle.decoder.specs.Data.{Log}
 use Rattle.cells.specs.Cells.{ink, byteFor, byteAt, inked, cell, cellsFrom, painted}
+use Rattle.cells.specs.Kept.{at-past}
+use Rattle.cells.proofs.Paint.{divmod}
 use Rattle.grammar.specs.Grammar.{Mask}
 use Rattle.claims.specs.Terms.{W, rows, bit, Rule}
 use Rattle.claims.specs.Logs.{none-yet}
@@ -28,11 +30,6 @@ pub byteAt-in : (l : Log) (k : ℕ) → k < length l → byteAt l k ≡ some (ge
 byteAt-in [] k h = absurd (not-suc-le-zero h)
 byteAt-in (x ∷ l) zero h = refl
 byteAt-in (x ∷ l) (suc k) h = byteAt-in l k (le-of-suc-le-suc h)
-
-pub byteAt-out : (l : Log) (k : ℕ) → length l ≤ k → byteAt l k ≡ none
-byteAt-out [] k h = refl
-byteAt-out (x ∷ l) zero h = absurd (not-suc-le-zero h)
-byteAt-out (x ∷ l) (suc k) h = byteAt-out l k (le-of-suc-le-suc h)
 
 cells-at : (w : ℕ) (l : Log) (c : ℕ) (r : List ℕ) (j : ℕ) → getElem? (cellsFrom w l c r) j ≡ Option·map (cell w l (c + j)) (getElem? r j)
 cells-at w l c [] j = refl
@@ -61,9 +58,6 @@ painted-none w r = go 0 r
     go c (x ∷ r) = ap (λ (k : List ℕ). x ∷ k) (go (suc c) r)
 
 -- ---- numbers
-
-divmod : (m y r : ℕ) → 0 < m → r < m → ((y * m + r) / m ≡ y) × ((y * m + r) % m ≡ r)
-divmod m y r hm hr = (mul-add-div-right hm y r ∙ ap (λ (k : ℕ). y + k) (div-eq-of-lt hr) ∙ omega arith, mul-add-mod-self-right y m r ∙ mod-eq-of-lt hr)
 
 ink-bit : (b j : ℕ) → ((bit b j ≡ 1) × (ink b j ≡ 0)) ⊎ ((bit b j ≡ 0) × (ink b j ≡ 255))
 ink-bit b j = go (eqb (bit b j) 1) refl
@@ -113,4 +107,4 @@ module _ (m : Mask) (pixels : List ℕ) (hw : 0 < m .width) where
 
       go : (o : Option ℕ) → Option·map (cell (m .width) l c) o ≡ o
       go none = refl
-      go (some x) = rw (byteAt-out l (byteFor (m .width) c) far)
+      go (some x) = rw (at-past l (byteFor (m .width) c) far)

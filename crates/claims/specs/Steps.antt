@@ -4,8 +4,8 @@ use Prim.Native.Nat.{ℕ, zero, suc, _+_, _*_, _≤_, _<_}
 use native.Mathlib.Omega.{arith}
 use native.Mathlib.Numerals.{add-one}
 use mathlib.Core.Option.{Option, none, some}
-use mathlib.Core.Bool.{Bool, true, false}
-use mathlib.Core.List.{List, [], _∷_, _++_}
+use mathlib.Core.Bool.{true, false}
+use mathlib.Core.List.{List, _++_}
 use lib.ListN.{length, length-append}
 use lib.Dec.{eqb}
 use borrow.Author.Tests.{eq-eqb, ne-eqb, lt-ltb, le-ltb}
@@ -21,11 +21,12 @@ use Rattle.decoder.specs.declared.XbmStreamDecoder.{XbmStreamDecoder}
 use Rattle.decoder.specs.Step.{bytesOf, foreign, called, placedAt, stepOf}
 use Rattle.grammar.specs.Lang.{_·_}
 use Rattle.grammar.specs.Grammar.{Mask, Define, Side, Header, Data}
-use Rattle.grammar.specs.Bind.{bind-case, bind-ok, past-append, past-byte, move}
+use Rattle.grammar.specs.Bind.{past-append, past-byte, move}
 use Rattle.grammar.specs.Fits.{Any}
 use Rattle.grammar.specs.Exact.{start-rest, data-fits}
 use Rattle.claims.specs.Terms.{W}
 use Rattle.claims.specs.Cuts.{walk-past}
+use Rattle.claims.specs.Mismatch.{apart}
 
 -- the decoder after k calls
 unfoldable pub calls : ℕ → List ℕ → XbmStreamDecoder → XbmStreamDecoder
@@ -77,16 +78,6 @@ module _ (t : List ℕ) (d : XbmStreamDecoder) (h : Native t d) where
 
 -- ---- several calls
 
--- a run of j + 1 data bytes is a run of j and one more
-snoc : (j : ℕ) (f g : Bool) (t : List ℕ) (i : TextLocation) (l : List ℕ) (e : TextLocation) → (j ≡ 0 → g ≡ f) → (0 < j → g ≡ false) → items (suc j) f t i ≡ ok l e
-    → (k : List ℕ) × (n : TextLocation) × (b : ℕ) × (items j f t i ≡ ok k n) × (item g t n ≡ ok b e)
-unfolding items give
-snoc zero f g t i l e hz hs q = bind-case (item f) _ t i q (λ b n u v. bind-case (give []) _ t n v (λ a o x y. ([], i, b, refl, rw (hz refl) (u ∙ ap (λ (c : TextLocation). ok b c) (cc)))))
-snoc (suc j) f g t i l e hz hs q =
-    bind-case (item f) _ t i q (λ b n u v. bind-case (items (suc j) false) _ t n v (λ a o x y. (let z : o ≡ e = cc in
-    let (k, d, c, p, s) = snoc j false g t n a o (λ w. hs (omega arith)) (λ w. hs (omega arith)) x in
-    (b ∷ k, d, c, bind-ok (item f) _ t i b n u ∙ bind-ok (items j false) _ t n k d p, s ∙ ap (λ (w : TextLocation). ok c w) z))))
-
 module _ (t : List ℕ) (d : XbmStreamDecoder) (h : Native t d) where
   -- a decoder placed where a run of data bytes ends is not foreign
   pub still-native : (k : ℕ) (l : List ℕ) (m : TextLocation) → k ≤ sizeOf d → items k true t (d .location) ≡ ok l m → Native t (placedAt d k m)
@@ -99,7 +90,7 @@ module _ (t : List ℕ) (d : XbmStreamDecoder) (h : Native t d) where
   unfolding calls items give
   calls-stand zero l m z hk q = let y : d .location ≡ m = cc in sym (ap (placedAt d 0) (sym y) ∙ ap (λ (n : ℕ). placedAt d n (d .location)) (sym z))
   calls-stand (suc k) l m z hk q =
-      let (a, n, b, p, s) = snoc k true (eqb k 0) t (d .location) l m (λ e. eq-eqb k 0 e) (λ e. ne-eqb k 0 (λ w. omega arith)) q in
+      let (a, n, b, p, s) = apart k true (eqb k 0) t (d .location) l m (λ e. eq-eqb k 0 e) (λ e. ne-eqb k 0 (λ w. omega arith)) q in
       ap (λ (x : XbmStreamDecoder). stepOf t x .decoder) (calls-stand k a n z (omega arith) p)
       ∙ next-decoder t (placedAt d k n) (still-native k a n (omega arith) p) hk b m s
       ∙ ap (λ (x : ℕ). placedAt d x m) (add-one k)

@@ -2,7 +2,7 @@
 use Prim.Native.Nat.{ℕ}
 use borrow.Author.Tests.{eq-eqb}
 use mathlib.Core.Path.{_≡_, refl, _∙_}
-use mathlib.Core.List.{List, [], _∷_}
+use mathlib.Core.List.{List}
 use mathlib.Core.Bool.{Bool, true, false}
 use Rattle.text.specs.declared.TextLocation.{TextLocation}
 use Rattle.text.specs.declared.Took.{Took}
@@ -13,7 +13,7 @@ use Rattle.text.specs.Leaf.{give, eot}
 use Rattle.text.proofs.Laws.{next-rest, next-after, end-rest}
 use Rattle.text.proofs.Reading.{bind·laws, fork·laws}
 use Rattle.lexical.specs.Lexical.{isLoose, skip, byte, is}
-use Rattle.lexical.proofs.Laws.{then-yes, byte·laws, onto·laws, row·laws, pass·laws}
+use Rattle.lexical.proofs.Laws.{then-yes, byte·laws, row·laws, pass·laws}
 use Rattle.hex.specs.Hex.{hexByte}
 use Rattle.decoder.specs.Data.{item}
 use Rattle.decoder.specs.Code.{separator}

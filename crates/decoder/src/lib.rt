@@ -1,9 +1,8 @@
 // The stream decoder: one data byte a call, and after the last the trailer. By value; the text stands apart.
 ghost use mathlib.Core.Path.{_≡_};
 ghost use Prim.Native.Nat.{_+_};
-ghost use Rattle.text.specs.Reader.{ok};
 ghost use Rattle.lexical.specs.Lexical.{told, toldByte, onto, skip, isLoose};
-ghost use Rattle.decoder.specs.Data.{item, brace, closing, tail, trailer};
+ghost use Rattle.decoder.specs.Data.{item, brace, closing, trailer};
 ghost use Rattle.decoder.specs.Step.{bytesOf, foreign, placedAt, toldCall, toldStep, stepOf};
 ghost use Rattle.decoder.specs.Code.{separator, ended};
 use hex::read_hex_byte;

@@ -10,12 +10,10 @@ use Rattle.text.specs.declared.TextLocation.{TextLocation}
 use Rattle.text.specs.Ascii.{ascii}
 use Rattle.text.specs.Yields.{Yields, yields-bind, yields-give}
 use Rattle.text.specs.Reader.{ok, Reader, _>>=_}
-use Rattle.text.specs.Leaf.{give}
 use Rattle.lines.specs.Lines.{element, arrayLine, widthLine}
 use Rattle.header.specs.Header.{Head, ending, hotspot, rest, header}
 use Rattle.grammar.specs.Lang.{Lang, Word, _·_, All, Star}
 use Rattle.grammar.specs.Grammar.{solid, Side, Coordinate, Skipped, Define, Symbol, Hotspot, Array, Mask, Header}
-use Rattle.grammar.specs.Bind.{bind-case}
 use Rattle.grammar.specs.Devices.{headOf}
 use Rattle.grammar.specs.Fits.{Follow, Any, Next, At, Fits, says, Begins, fit-bind, fit-run, fit-give, fit-done, fit-drop, fit-fork}
 use Rattle.grammar.specs.Pieces.{fit, begin, begins-any, begins-next, leading-fits}

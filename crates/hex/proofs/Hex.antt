@@ -4,16 +4,14 @@ use mir.Val.{Fits}
 use Prim.Native.Nat.{ℕ, zero, suc, _+_, _-_, _*_, _<_, _≤_}
 use native.Mathlib.Omega.{arith}
 use borrow.Author.Tests.{le-leb, lt-leb, lt-ltb, le-ltb, ltb-true}
-use mathlib.Core.Path.{_≡_, refl, sym, ap, _∙_}
-use mathlib.Core.Option.{Option, none, some}
+use mathlib.Core.Path.{_≡_, refl, ap, _∙_}
+use mathlib.Core.Option.{none, some}
 use mathlib.Core.List.{List, [], _∷_}
 use mathlib.Core.Bool.{Bool, true, false}
 use lib.ListN.{getD}
-use lib.Dec.{ltb, eqb}
+use lib.Dec.{ltb}
 use Rattle.text.specs.declared.TextLocation.{TextLocation}
-use Rattle.text.specs.declared.Took.{Took}
-use Rattle.text.specs.declared.Took.the-variants.{Next, End}
-use Rattle.text.specs.Place.{pick, rest, after, tookAt}
+use Rattle.text.specs.Place.{pick, rest, after}
 use Rattle.text.specs.Reader.{Result, ok, stop, Reader, _>>=_}
 use Rattle.text.specs.Leaf.{one, first, judge}
 use Rattle.text.proofs.Reading.{bind-ok, bind-stop, one-ok, one-stop, one-end}

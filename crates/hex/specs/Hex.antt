@@ -5,7 +5,7 @@ use mathlib.Core.List.{List, [], _∷_}
 use mathlib.Core.Bool.{Bool, true, false}
 use lib.Dec.{leb, ltb, eqb}
 use Rattle.text.specs.Place.{pick}
-use Rattle.text.specs.Reader.{Result, ok, stop, Reader, _>>=_, _>>_, Local, Firm, Mild, Grows, bind-local, bind-firm, bind-mild}
+use Rattle.text.specs.Reader.{Reader, _>>=_, _>>_, Local, Firm, Mild, Grows, bind-local, bind-firm, bind-mild}
 use Rattle.text.specs.Leaf.{give, give-local, give-firm, give-mild, one, one-local, one-firm, one-mild, one-grows}
 use Rattle.lexical.specs.Lexical.{byte, fixed, locals, milds, firms}
 

@@ -1,12 +1,12 @@
 -- Lines that are skipped: a line's rest at once, and the lines before the first define line.
-use Prim.Native.Nat.{ℕ, zero, suc, _+_, _-_, _*_, _^_, _<_, _≤_}
+use Prim.Native.Nat.{ℕ, suc, _+_, _-_, _*_, _^_, _<_, _≤_}
 use native.Mathlib.Nat.{zero-add}
 use native.Mathlib.Numerals.{add-one}
 use native.Mathlib.Omega.{arith}
 use native.Mathlib.Decide.{decLt}
 use borrow.Author.Tests.{eq-eqb, ne-eqb, eqb-true, lt-ltb, le-ltb}
 use mathlib.Core.Path.{_≡_, refl, sym, ap, _∙_}
-use mathlib.Core.Option.{Option, none, some}
+use mathlib.Core.Option.{none}
 use mathlib.Core.List.{List, [], _∷_}
 use mathlib.Core.Bool.{Bool, true, false}
 use lib.ListN.{length, drop, getD, drop-of-length-le, length-drop}
@@ -18,12 +18,12 @@ use Rattle.text.specs.declared.Peeked.the-variants.{Found, Nothing}
 use Rattle.text.specs.Place.{pick, hasLeft, alongLine, pastLine, rest, after, past, byteOf, peeked, peekedAt}
 use Rattle.text.specs.Rest.{Sound, after-rest, newlines}
 use Rattle.text.specs.PlaceLaws.{sound-rest, left-inside, left-none, along-past, line-past}
-use Rattle.text.specs.Reader.{Result, ok, stop, bad, then, Reader, _>>=_, _>>_}
-use Rattle.text.specs.Leaf.{one, run, scan, Move, go-on, stay, moved, judge}
+use Rattle.text.specs.Reader.{Result, ok, stop, then, _>>=_, _>>_}
+use Rattle.text.specs.Leaf.{one, run, scan}
 use Rattle.lexical.specs.declared.XbmPart.{XbmPart}
 use Rattle.lexical.specs.declared.Passed.{Passed}
 use Rattle.lexical.specs.declared.Passed.the-variants.{To, Refused}
-use Rattle.lexical.specs.Lexical.{number, told, when, is, byte, while, skip, starts, lead, leading}
+use Rattle.lexical.specs.Lexical.{number, told, is, byte, skip, lead, leading}
 use Rattle.leading.specs.Line.{lineOf, inLine, lineRest}
 
 -- ---- where a line ends

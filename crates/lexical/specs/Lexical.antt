@@ -6,7 +6,7 @@ use mathlib.Core.Bool.{Bool, true, false}
 use lib.Dec.{eqb}
 use Rattle.text.specs.Place.{pick}
 use Rattle.text.specs.Reader.{Result, ok, stop, then, Reader, _>>=_, _>>_, Local, Firm, Mild, Grows, bind-local, bind-firm, bind-mild, grow-firm, grow-grows, bind-grows-left}
-use Rattle.text.specs.Leaf.{give, want, need, one, run, fork, eot, Move, go-on, stay, halt, give-local, give-firm, give-mild, want-local, want-firm, want-mild, need-local, need-firm, one-local, one-firm, one-grows, one-mild, run-local, run-mild, fork-local, fork-firm, fork-mild, fork-grows, eot-local}
+use Rattle.text.specs.Leaf.{give, one, run, Move, go-on, stay, give-local, give-firm, give-mild, want-local, want-firm, want-mild, need-local, need-firm, one-local, one-firm, one-grows, one-mild, run-local, run-mild, fork-local, fork-firm, fork-mild, fork-grows, eot-local}
 use Rattle.lexical.specs.declared.XbmPart.{XbmPart}
 use Rattle.lexical.specs.declared.XbmPart.the-variants.{Width, Height, HotspotX, HotspotY, Array, Data, ArrayEnd, Trailing}
 use Rattle.lexical.specs.declared.Passed.{Passed}

@@ -41,6 +41,7 @@ use Rattle.places.specs.Saving.{Good, good-on, front-same, Saved, Able, 
 use Rattle.places.specs.SavingLeaves.{next-off, give-open, byte-open, fixed-open, gap-open}
 use Rattle.places.specs.SavingRuns.{token-over, over-token, leading-open}
 use Rattle.places.specs.SavingParts.{valued}
+use Rattle.places.specs.Looks.{all-end}
 use Rattle.places.specs.EarliestLift.{good-start, savable-same, at-start, told-header}
 use Rattle.places.specs.EarliestLine.{line-lift, refused as refused-so, off-blank, all-front}
 
@@ -349,17 +350,13 @@ bad-named limit text n s = (m, past m (s .symbol), opened, go (s .refusal))
     unnamed h none q = unfold want in refl
     unnamed h (some x) q = absurd (h x (before→ends endWidth (s .symbol) x q))
 
-    all-with : (w : List ℕ) (b : ℕ) → All solid w → solid b ≡ true → All solid (w ++ (b ∷ []))
-    all-with [] b a h = (h, tt)
-    all-with (x ∷ w) b a h = (a .0, all-with w b (a .1) h)
-
     go : (NotNext solid (s .after) × (length (s .symbol) ≤ limit) × ((x : List ℕ) → s .symbol ≡ x ++ ascii "_width" → ⊥)) ⊎ ((length (s .symbol) ≡ limit) × ((b : ℕ) × (v : List ℕ) × (s .after ≡ b ∷ v) × (solid b ≡ true)))
         → then (token isLoose 1 limit text m) (λ x e. want 1 (before endWidth x) text e) ≡ stop 1 (past m (s .symbol))
     go (inl (x, l, h)) =
         let k : token isLoose 1 limit text m ≡ ok (s .symbol) (past m (s .symbol)) = token-fits 1 limit (s .symbol) .from text m (s .symbol) (s .after) (s .solids, l) here refl (off solid (s .after) x) in
         rw k (unnamed h (before endWidth (s .symbol)) refl)
     go (inr (l, (b, v, q, x))) =
-        let k : token isLoose 1 limit text m ≡ stop 1 (past m (s .symbol)) = over-token 1 limit text m (s .symbol) b v (here ∙ ap (λ (y : List ℕ). s .symbol ++ y) q) l (all-with (s .symbol) b (s .solids) x) in
+        let k : token isLoose 1 limit text m ≡ stop 1 (past m (s .symbol)) = over-token 1 limit text m (s .symbol) b v (here ∙ ap (λ (y : List ℕ). s .symbol ++ y) q) l (all-end (s .symbol) b (s .solids) x) in
         rw k refl
 
 -- ---- the row

@@ -116,7 +116,7 @@ abbrev pub Long : ℕ → ℕ → Looks
 Long n lim t i c e =
     (c ≡ n) × (w : List ℕ) × (b : ℕ) × (v : List ℕ) × (rest t i ≡ w ++ (b ∷ v)) × All solid w × (length w ≡ lim) × (solid b ≡ true) × (e ≡ past i w)
 
-all-end : (w : List ℕ) (b : ℕ) → All solid w → solid b ≡ true → All solid (w ++ (b ∷ []))
+pub all-end : (w : List ℕ) (b : ℕ) → All solid w → solid b ≡ true → All solid (w ++ (b ∷ []))
 all-end [] b a q = (q, tt)
 all-end (x ∷ w) b a q = (a .0, all-end w b (a .1) q)
 

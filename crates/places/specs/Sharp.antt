@@ -16,7 +16,7 @@ use Rattle.hex.specs.Hex.{hexv, hexDigit, hexStart, hexDigits, hexUnit, hexUnit
 use Rattle.lines.specs.Lines.{element, arrayLine, line-laws}
 use Rattle.decoder.specs.Data.{item, items, brace, closing, tail, trailer, item-local, items-local, closing-local, trailer-local, brace-local}
 use Rattle.cells.specs.Cells.{count}
-use Rattle.rows.specs.Rows.{ending, whole}
+use Rattle.rows.specs.Rows.{ending, whole, ending-local}
 
 -- what is known where a reader, started at a place of a text, looked ahead: its number, and the place that it tells
 abbrev pub Looks : Type 1
@@ -233,11 +233,6 @@ ending-sharp : (e few first : Bool) (l : List ℕ) → Sharp Never (ending e few
 ending-sharp true few first l = search (sharps, trailer-sharp, trailer-local)
 ending-sharp false true first l = search (sharps, item-sharp, item-local)
 ending-sharp false false first l = search (sharps, trailer-sharp, trailer-local)
-
-ending-local : (e few first : Bool) (l : List ℕ) → Local (ending e few first l)
-ending-local true few first l = search (trailer-local, locals)
-ending-local false true first l = search (item-local, locals)
-ending-local false false first l = search (trailer-local, locals)
 
 pub whole-sharp : (w h n : ℕ) → Sharp Never (whole w h n)
 unfolding whole

@@ -31,7 +31,7 @@ use Rattle.claims.specs.Numbers.{Numbered, item-numbered, closing-numbered, tai
 use Rattle.claims.specs.Steps.{Native, next-answer, next-decoder, last-answer}
 use Rattle.refusals.specs.Terms.{Placed, No, Foreign, sizeOf, ahead, moved, Item}
 use Rattle.refusals.specs.Stages.{alone, stop-first, stop-second}
-use Rattle.refusals.specs.Calls.{foreign-exactly, of-here, last-decoder}
+use Rattle.refusals.specs.Calls.{foreign-exactly, of-here, last-decoder, none-given}
 
 item-fits : (k b : ℕ) → Fits (item (eqb k 0)) b (Unit {0}) (Item k b) Any
 item-fits zero b = first-fits b
@@ -93,11 +93,6 @@ module _ (t : List ℕ) (d : XbmStreamDecoder) (h : Foreign t d → ⊥) where
   stopped g (ok a e) c p = ((λ q. (let z : _≡_ {A = ℕ} 0 1 = cc in absurd (omega arith))), λ q. (let z : _≡_ {A = ℕ} 0 1 = cc in absurd (omega arith)))
   stopped g (stop x e) c p = ((λ q. cc), λ q. cc)
   stopped g (bad x e) c p = ((λ q. (let z : _≡_ {A = ℕ} 0 1 = cc in absurd (omega arith))), λ q. (let z : _≡_ {A = ℕ} 0 1 = cc in absurd (omega arith)))
-
-  none-given : (r : Result ℕ) → outcome (λ b. some b) r ≡ accepted none → ⊥
-  none-given (ok b e) q = let z : _≡_ {A = ℕ} 0 1 = cc in omega arith
-  none-given (stop c e) q = let z : _≡_ {A = ℕ} 0 1 = cc in omega arith
-  none-given (bad c e) q = let z : _≡_ {A = ℕ} 0 1 = cc in omega arith
 
   no-byte : (r : Result (Unit {0})) (b : ℕ) → outcome (λ u. none) r ≡ accepted (some b) → ⊥
   no-byte (ok a e) b q = let z : _≡_ {A = ℕ} 0 1 = cc in omega arith

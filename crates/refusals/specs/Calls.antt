@@ -145,17 +145,18 @@ module _ (t : List ℕ) (d : XbmStreamDecoder) (h : Native t d) (l : d .«curren
   at-last r = (last-answer t d h l ∙ rw (at-end t (d .location) r), last-decoder ∙ rw (at-end t (d .location) r))
 
 -- a call after a sound trailer meets the end and gives 7; the decoder stays where it stands
+-- what is given of a data byte is never none
+pub none-given : (r : Result ℕ) → outcome (λ b. some b) r ≡ accepted none → ⊥
+none-given (ok b e) q = let z : _≡_ {A = ℕ} 0 1 = cc in omega arith
+none-given (stop c e) q = let z : _≡_ {A = ℕ} 0 1 = cc in omega arith
+none-given (bad c e) q = let z : _≡_ {A = ℕ} 0 1 = cc in omega arith
+
 pub seven : (t : List ℕ) (d : XbmStreamDecoder) → stepOf t d .answer ≡ accepted none
     → (stepOf t (stepOf t d .decoder) .answer ≡ refused 7 (stepOf t d .decoder .location)) × (stepOf t (stepOf t d .decoder) .decoder ≡ stepOf t d .decoder)
 seven t d a = go (foreign t d) refl
   where
     Goal : XbmStreamDecoder → Type 0
     Goal e = (stepOf t e .answer ≡ refused 7 (e .location)) × (stepOf t e .decoder ≡ e)
-
-    none-next : (r : Result ℕ) → outcome (λ b. some b) r ≡ accepted none → ⊥
-    none-next (ok b e) q = let z : _≡_ {A = ℕ} 0 1 = cc in omega arith
-    none-next (stop c e) q = let z : _≡_ {A = ℕ} 0 1 = cc in omega arith
-    none-next (bad c e) q = let z : _≡_ {A = ℕ} 0 1 = cc in omega arith
 
     sound : Native t d → d .«current_position» ≡ sizeOf d → (r : Result (Unit {0})) → trailer t (d .location) ≡ r → _≡_ {A = Outcome (Option ℕ)} (outcome (λ u. none) r) (accepted none) → Goal (placedAt d (d .«current_position») (endOf r))
     sound h l (ok u e) q x =
@@ -166,7 +167,7 @@ seven t d a = go (foreign t d) refl
     sound h l (bad c e) q x = let z : _≡_ {A = ℕ} 0 1 = cc in absurd (omega arith)
 
     split : Native t d → Dec (d .«current_position» < sizeOf d) → Goal (stepOf t d .decoder)
-    split h (yes l) = absurd (none-next (item (eqb (d .«current_position») 0) t (d .location)) (sym (next-answer t d h l) ∙ a))
+    split h (yes l) = absurd (none-given (item (eqb (d .«current_position») 0) t (d .location)) (sym (next-answer t d h l) ∙ a))
     split h (no l) = let e : d .«current_position» ≡ sizeOf d = omega (arith, h .position) in rw (last-decoder t d h e) (sound h e (trailer t (d .location)) refl (sym (last-answer t d h e) ∙ a))
 
     nine-not : unplaced 9 ≡ stepOf t d .answer → ⊥

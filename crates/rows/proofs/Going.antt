@@ -13,9 +13,8 @@ use lib.ListN.{length, getD, take, drop}
 use lib.Dec.{eqb, ltb}
 use borrow.Author.Tests.{eq-eqb, ne-eqb, lt-ltb, le-ltb}
 use Rattle.text.specs.declared.TextLocation.{TextLocation}
-use Rattle.text.specs.Place.{pick}
 use Rattle.text.specs.Reader.{Result, ok, stop, bad, Reader, _>>=_, _>>_, then}
-use Rattle.text.specs.Outcome.{Outcome, accepted, refused, unplaced, outcome}
+use Rattle.text.specs.Outcome.{outcome}
 use Rattle.text.specs.Leaf.{give, need}
 use Rattle.lexical.specs.declared.XbmPart.{XbmPart}
 use Rattle.lexical.specs.declared.Passed.{Passed}
@@ -28,7 +27,7 @@ use Rattle.decoder.specs.Data.{Log, item, items, trailer, logOf}
 use Rattle.rows.specs.declared.Rows.{Rows}
 use Rattle.rows.specs.declared.Rows.the-variants.{Done, Refused, Mismatch}
 use Rattle.decoder.specs.Step.{rowBytes}
-use Rattle.cells.specs.Cells.{cell, painted, count}
+use Rattle.cells.specs.Cells.{cell, count}
 use Rattle.cells.specs.Stores.{dab, unpacked}
 use Rattle.rows.specs.Rows.{toldRows, ending, whole, Filled}
 use Rattle.cells.proofs.Stores.{length-dab, dab-part}

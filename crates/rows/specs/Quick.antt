@@ -6,7 +6,7 @@ use lib.ListN.{getD}
 use Rattle.text.specs.declared.TextLocation.{TextLocation}
 use Rattle.text.specs.Reader.{Result, ok}
 use Rattle.rows.specs.declared.Quick.{Quick}
-use Rattle.rows.specs.declared.Quick.the-variants.{Hit, Miss}
+use Rattle.rows.specs.declared.Quick.the-variants.{Hit}
 
 -- r holds the four bytes from i on, the first the lowest
 pub record Four (t : List ℕ) (i r : ℕ) : Type 0 where

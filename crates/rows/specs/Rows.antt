@@ -8,7 +8,7 @@ use lib.ListN.{length}
 use lib.Dec.{eqb, ltb}
 use Rattle.text.specs.declared.TextLocation.{TextLocation}
 use Rattle.text.specs.Reader.{Reader, _>>=_, _>>_, Local, bind-local}
-use Rattle.text.specs.Leaf.{give, need, give-local, need-local}
+use Rattle.text.specs.Leaf.{give, need}
 use Rattle.text.specs.Outcome.{Outcome, accepted, refused, unplaced, outcome}
 use Rattle.lexical.specs.Lexical.{number, locals}
 use Rattle.decoder.specs.Data.{item, items, trailer, logOf, item-local, items-local, trailer-local}
@@ -31,7 +31,7 @@ ending false false first l = trailer >> mismatch
 unfoldable pub whole : ℕ → ℕ → ℕ → Reader (List ℕ)
 whole w h n = items (count w h n) true >>= ending (eqb (n / w) h) (ltb (n / w) h) (eqb (count w h n) 0)
 
-ending-local : (e few first : Bool) (l : List ℕ) → Local (ending e few first l)
+pub ending-local : (e few first : Bool) (l : List ℕ) → Local (ending e few first l)
 ending-local true few first l = search (trailer-local, locals)
 ending-local false true first l = search (item-local, locals)
 ending-local false false first l = search (trailer-local, locals)
