@@ -1,2 +1,3 @@
 -- The definitions of `stored`, by module.
 pub mod Record
+pub mod Alike
