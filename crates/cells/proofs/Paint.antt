@@ -10,8 +10,7 @@ use lib.ListN.{length, getD, set}
 use lib.Seq.{getD-set-same, getD-set-other}
 use borrow.Author.Tests.{ne-eqb, lt-ltb}
 use Rattle.text.specs.declared.TextLocation.{TextLocation}
-use Rattle.decoder.specs.Data.{Log}
-use Rattle.decoder.specs.Step.{rowBytes}
+use Rattle.body.specs.Data.{Log, rowBytes}
 use Rattle.cells.specs.Cells.{ink, byteFor, byteAt, inked, cell, cellsFrom, painted}
 use Rattle.cells.specs.Stores.{dab, byteStored}
 use Rattle.cells.specs.Kept.{at-past}

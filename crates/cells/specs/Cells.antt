@@ -4,8 +4,7 @@ use mathlib.Core.Option.{Option, none, some}
 use mathlib.Core.List.{List, [], _∷_}
 use lib.Dec.{eqb}
 use Rattle.text.specs.Place.{pick}
-use Rattle.decoder.specs.Data.{Log}
-use Rattle.decoder.specs.Step.{rowBytes}
+use Rattle.body.specs.Data.{Log, rowBytes}
 
 -- bit i, 0 the least, as a cell: 0 if it is set, else 255
 abbrev pub ink : ℕ → ℕ → ℕ

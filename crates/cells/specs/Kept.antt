@@ -9,8 +9,7 @@ use mathlib.Core.List.{List, [], _∷_}
 use lib.ListN.{length}
 use Rattle.text.specs.declared.TextLocation.{TextLocation}
 use Rattle.text.specs.Reader.{Result, ok, stop, bad}
-use Rattle.decoder.specs.Data.{item, Log, logged, logOf}
-use Rattle.decoder.specs.Step.{rowBytes}
+use Rattle.body.specs.Data.{item, Log, logged, logOf, rowBytes}
 use Rattle.cells.specs.Cells.{byteFor, byteAt, cell, count}
 
 pub at-past : (l : Log) (k : ℕ) → length l ≤ k → byteAt l k ≡ none

@@ -4,7 +4,7 @@ use mathlib.Core.List.{List}
 use lib.ListN.{length, set}
 use lib.Dec.{eqb, ltb}
 use Rattle.text.specs.Place.{pick}
-use Rattle.decoder.specs.Step.{rowBytes}
+use Rattle.body.specs.Data.{rowBytes}
 use Rattle.cells.specs.Cells.{ink}
 
 -- n cells from `start` on take the bits of b, the least first

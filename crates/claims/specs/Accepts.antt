@@ -14,8 +14,7 @@ use Rattle.text.specs.Reader.{Result, ok, stop, bad, then, _>>=_, _>>_}
 use Rattle.text.specs.Leaf.{give, need}
 use Rattle.text.specs.Outcome.{accepted, outcome}
 use Rattle.header.specs.Header.{Head, header}
-use Rattle.decoder.specs.Data.{item, items, closing, tail, trailer}
-use Rattle.decoder.specs.Step.{rowBytes, bytesOf}
+use Rattle.body.specs.Data.{item, items, closing, tail, trailer, rowBytes, bytesOf}
 use Rattle.cells.specs.Cells.{painted, count}
 use Rattle.rows.specs.Rows.{mismatch, ending, whole}
 use Rattle.image.specs.Reading.{picture, cellsIn, reading}

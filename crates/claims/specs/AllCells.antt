@@ -13,7 +13,7 @@ use Rattle.text.specs.Place.{rest, start, past}
 use Rattle.text.specs.Reader.{Result, ok, stop, bad, endOf, then, _>>=_}
 use Rattle.text.specs.Leaf.{give}
 use Rattle.header.specs.Header.{Head}
-use Rattle.decoder.specs.Data.{item, items, Log, logged, logOf}
+use Rattle.body.specs.Data.{item, items, Log, logged, logOf}
 use Rattle.cells.specs.Cells.{byteAt, painted, count}
 use Rattle.image.specs.Reading.{cellsIn, reading}
 use Rattle.grammar.specs.Lang.{_·_}

@@ -9,8 +9,7 @@ use lib.Seq.{length-take-le, take-suc}
 use Rattle.text.specs.Place.{byteOf, rest, start, past}
 use Rattle.text.specs.Reader.{ok, endOf}
 use Rattle.header.specs.Header.{header}
-use Rattle.decoder.specs.Data.{items, Log, logOf}
-use Rattle.decoder.specs.Step.{bytesOf}
+use Rattle.body.specs.Data.{items, Log, logOf, bytesOf}
 use Rattle.grammar.specs.Lang.{Word, _·_}
 use Rattle.grammar.specs.Grammar.{Mask, Byte, Further, Data, Header, Format}
 use Rattle.grammar.specs.Bind.{past-byte, move}

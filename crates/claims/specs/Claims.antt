@@ -11,7 +11,7 @@ use Rattle.text.specs.declared.TextLocation.{TextLocation}
 use Rattle.text.specs.Place.{byteOf, start, past}
 use Rattle.text.specs.Outcome.{accepted, refused, unplaced, outcome}
 use Rattle.header.specs.Header.{Head}
-use Rattle.decoder.specs.Data.{item, trailer}
+use Rattle.body.specs.Data.{item, trailer}
 use Rattle.decoder.specs.Step.{placedAt, stepOf}
 use Rattle.image.specs.Reading.{Reading, reading}
 use Rattle.grammar.specs.Lang.{_·_}

@@ -17,7 +17,7 @@ use Rattle.text.specs.Outcome.{Outcome, accepted, refused, outcome}
 use Rattle.lexical.specs.Token.{overlay}
 use Rattle.symbol.specs.Symbol.{stored}
 use Rattle.header.specs.Header.{Head, header, header-local, header-firm}
-use Rattle.decoder.specs.Data.{tail, Log}
+use Rattle.body.specs.Data.{tail, Log}
 use Rattle.cells.specs.Cells.{painted}
 use Rattle.cells.specs.Kept.{at-past}
 use Rattle.image.specs.Reading.{nameIn, reading}

@@ -16,7 +16,8 @@ use Rattle.header.specs.Header.{Head, header, header-local, header-firm}
 use Rattle.image.specs.Reading.{Reading, reading, picture}
 use Rattle.ink.specs.Ink.{inkOf}
 use Rattle.image.specs.Limited.{cellsOf, pictured, afterHeader, limited}
-use Rattle.listing.specs.Listing.{textLimit, cellLimit, acceptedText, printed, inkIn, listedOf, listedText, listedWithin, listed, listing}
+use Rattle.printing.specs.Printed.{acceptedText, printed}
+use Rattle.listing.specs.Listing.{textLimit, cellLimit, inkIn, listedOf, listedText, listedWithin, listed, listing}
 use Rattle.grammar.specs.Lang.{_·_}
 use Rattle.grammar.specs.Grammar.{Mask, Format}
 use Rattle.claims.specs.Terms.{headOf, Fitting, Last}

@@ -14,8 +14,7 @@ use Rattle.text.specs.Place.{pick, byteOf, start}
 use Rattle.text.specs.Reader.{Result, ok, stop, bad, endByte, ahead, Settled, cut-firm, cut-stop, uncut}
 use Rattle.text.specs.Leaf.{give}
 use Rattle.header.specs.Header.{Head, header, header-local, header-firm}
-use Rattle.decoder.specs.Data.{item, items, Log, logged, logOf, item-local, item-firm, item-mild, items-local}
-use Rattle.decoder.specs.Step.{bytesOf}
+use Rattle.body.specs.Data.{item, items, Log, logged, logOf, item-local, item-firm, item-mild, items-local, bytesOf}
 use Rattle.grammar.specs.Bind.{bind-case, bind-ok}
 
 -- what stands for an entry that is not there

@@ -15,8 +15,7 @@ use Rattle.text.specs.Reader.{Result, ok, stop, bad, then, Reader, _>>=_, _>>_}
 use Rattle.text.specs.Leaf.{give, need}
 use Rattle.text.specs.Outcome.{unplaced, outcome}
 use Rattle.header.specs.Header.{Head, header}
-use Rattle.decoder.specs.Data.{item, items, closing, tail, trailer}
-use Rattle.decoder.specs.Step.{rowBytes, bytesOf}
+use Rattle.body.specs.Data.{item, items, closing, tail, trailer, rowBytes, bytesOf}
 use Rattle.rows.specs.Rows.{mismatch, whole}
 use Rattle.image.specs.Reading.{picture, reading}
 use Rattle.grammar.specs.Lang.{_·_}

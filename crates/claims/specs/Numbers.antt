@@ -16,7 +16,7 @@ use Rattle.lexical.specs.Token.{upTo, token}
 use Rattle.hex.specs.Hex.{hexv, hexDigit, hexStart, hexDigits, hexUnit}
 use Rattle.lines.specs.Lines.{widthLine, element, arrayLine}
 use Rattle.header.specs.Header.{rest as headerRest, header}
-use Rattle.decoder.specs.Data.{item, items, brace, closing, tail, trailer}
+use Rattle.body.specs.Data.{item, items, brace, closing, tail, trailer}
 use Rattle.cells.specs.Cells.{count}
 use Rattle.rows.specs.Rows.{ending, whole}
 

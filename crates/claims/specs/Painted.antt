@@ -11,7 +11,7 @@ use lib.ListN.{length, getElem?, getD}
 use lib.Dec.{eqb}
 use borrow.Author.Tests.{eqb-true, eqb-false}
 use Rattle.text.specs.Place.{pick}
-use Rattle.decoder.specs.Data.{Log}
+use Rattle.body.specs.Data.{Log}
 use Rattle.cells.specs.Cells.{ink, byteFor, byteAt, inked, cell, cellsFrom, painted}
 use Rattle.cells.specs.Kept.{at-past}
 use Rattle.cells.proofs.Paint.{divmod}

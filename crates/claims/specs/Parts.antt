@@ -10,8 +10,7 @@ use Rattle.text.specs.Place.{byteOf, start, past}
 use Rattle.text.specs.Reader.{ok, endByte, _>>=_, _>>_, Local, Firm, ahead, bind-local, bind-firm}
 use Rattle.text.specs.Leaf.{give, give-local, give-firm}
 use Rattle.header.specs.Header.{Head, header, header-local, header-firm}
-use Rattle.decoder.specs.Data.{items, closing, tail, items-local, items-firm, closing-local, closing-firm}
-use Rattle.decoder.specs.Step.{bytesOf}
+use Rattle.body.specs.Data.{items, closing, tail, items-local, items-firm, closing-local, closing-firm, bytesOf}
 use Rattle.grammar.specs.Grammar.{Mask, Format}
 use Rattle.grammar.specs.Bind.{bind-case, bind-ok, past-byte}
 use Rattle.grammar.specs.Fits.{Any}

@@ -17,7 +17,7 @@ use Rattle.integer.specs.Decimal.{isDigit, digitsFrom}
 use Rattle.symbol.specs.Symbol.{endsWith, before, opening, stored}
 use Rattle.lines.specs.Lines.{positive, widthLine, element, arrayLine}
 use Rattle.header.specs.Header.{rest as restOf, header}
-use Rattle.decoder.specs.Data.{item, items, brace, closing, tail, trailer, logOf}
+use Rattle.body.specs.Data.{item, items, brace, closing, tail, trailer, logOf}
 use Rattle.cells.specs.Cells.{cell, painted}
 use Rattle.rows.specs.Rows.{whole}
 use Rattle.image.specs.Reading.{picture, reading}
@@ -25,7 +25,8 @@ use Rattle.print.specs.Decimal.{digits}
 use Rattle.print.specs.Output.{joined}
 use Rattle.ink.specs.Ink.{inkOf}
 use Rattle.image.specs.Limited.{cellsOf, afterHeader, limited}
-use Rattle.listing.specs.Listing.{acceptedText, printed, Listed, listedWithin, listed, listing}
+use Rattle.printing.specs.Printed.{acceptedText, printed}
+use Rattle.listing.specs.Listing.{Listed, listedWithin, listed, listing}
 use Rattle.grammar.specs.Grammar.{Mask, Header, Format}
 use Rattle.claims.specs.Terms.{headOf, Last, Begun, Lines}
 use Rattle.listing.specs.Sizes

@@ -16,9 +16,9 @@ use Rattle.text.specs.Rest.{Walk, Reach, reach-inside, walk-sound, Sound}
 use Rattle.text.specs.Reader.{Result, ok, stop, bad, then, _>>=_}
 use Rattle.text.specs.Leaf.{give}
 use Rattle.text.specs.Outcome.{outcome}
-use Rattle.decoder.specs.Data.{item, items, trailer, items-local}
+use Rattle.body.specs.Data.{item, items, trailer, items-local, bytesOf}
 use Rattle.decoder.specs.declared.XbmStreamDecoder.{XbmStreamDecoder}
-use Rattle.decoder.specs.Step.{bytesOf, foreign, called, placedAt, stepOf}
+use Rattle.decoder.specs.Step.{foreign, called, placedAt, stepOf}
 use Rattle.grammar.specs.Lang.{_·_}
 use Rattle.grammar.specs.Grammar.{Mask, Define, Side, Header, Data}
 use Rattle.grammar.specs.Bind.{past-append, past-byte, move}

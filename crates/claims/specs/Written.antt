@@ -18,7 +18,7 @@ use Rattle.integer.specs.Decimal.{valueFrom}
 use Rattle.header.specs.Header.{Head}
 use Rattle.print.specs.Decimal.{digits, decimal, signed, digits-value}
 use Rattle.print.specs.Output.{joined}
-use Rattle.listing.specs.Listing.{hotText, printed}
+use Rattle.printing.specs.Printed.{hotText, printed}
 use Rattle.grammar.specs.Lang.{Lang, Word, _·_}
 use Rattle.grammar.specs.Grammar.{Digits, value, Decimal, Coordinate}
 use Rattle.claims.specs.Terms.{Field, HotWords, Lines}

@@ -1,3 +1,2 @@
--- What the proofs of `decoder` share, by module.
-pub mod Laws
+-- What the proofs of `decoder` share.
 pub mod Steps

@@ -4,24 +4,24 @@ use native.Mathlib.Omega.{arith}
 use mir.Syntax.{w64}
 use mir.Val.{Fits}
 use borrow.Author.Tests.{eq-eqb, ne-eqb, lt-ltb, le-ltb}
-use mathlib.Core.Path.{_≡_, refl, sym, ap, _∙_}
+use mathlib.Core.Path.{_≡_}
 use mathlib.Core.Option.{Option, none, some}
 use mathlib.Core.List.{List}
 use mathlib.Core.Bool.{Bool, true, false}
 use lib.Dec.{eqb, ltb}
 use Rattle.text.specs.declared.TextLocation.{TextLocation}
-use Rattle.text.specs.Place.{pick, isForeign}
-use Rattle.text.specs.Reader.{Result, ok, stop, bad, endOf, Reader, _>>=_, _>>_}
+use Rattle.text.specs.Place.{isForeign}
+use Rattle.text.specs.Reader.{_>>=_, _>>_}
 use Rattle.text.specs.Leaf.{give}
-use Rattle.text.specs.Outcome.{Outcome, accepted, refused, unplaced, outcome}
+use Rattle.text.specs.Outcome.{Outcome, accepted, refused, unplaced}
 use Rattle.lexical.specs.declared.XbmPart.{XbmPart}
 use Rattle.lexical.specs.declared.Passed.{Passed}
 use Rattle.lexical.specs.declared.Passed.the-variants.{To, Refused as Stopped}
 use Rattle.lexical.specs.declared.ByteRead.{ByteRead}
 use Rattle.lexical.specs.declared.ByteRead.the-variants.{Got, Refused as NotGot}
 use Rattle.lexical.specs.Lexical.{number, told, toldByte}
-use Rattle.decoder.specs.Data.{item, trailer}
-use Rattle.decoder.specs.Step.{rowBytes, bytesOf, foreign, more, called, spent, placedAt, Step, stepOf}
+use Rattle.body.specs.Data.{item, trailer, bytesOf}
+use Rattle.decoder.specs.Step.{foreign, called, placedAt, Step, stepOf}
 use Rattle.decoder.specs.declared.XbmStreamDecoder.{XbmStreamDecoder}
 
 -- a number of data bytes fits

@@ -1,28 +1,20 @@
 -- One call for the next data byte: the answer, and the decoder after it.
-use Prim.Native.Nat.{ℕ, _+_, _*_, _/_}
-use mathlib.Core.Path.{_≡_}
+use Prim.Native.Nat.{ℕ, _+_}
 use mathlib.Core.Option.{Option, none, some}
-use mathlib.Core.Bool.{Bool, true, false, _||_}
+use mathlib.Core.Bool.{Bool, true}
 use mathlib.Core.List.{List}
 use lib.Dec.{eqb, ltb}
 use Rattle.text.specs.declared.TextLocation.{TextLocation}
 use Rattle.text.specs.Place.{pick, isForeign}
-use Rattle.text.specs.Reader.{Result, endOf, Reader, _>>=_, _>>_}
+use Rattle.text.specs.Reader.{endOf, Reader, _>>=_, _>>_}
 use Rattle.text.specs.Leaf.{give}
 use Rattle.text.specs.Outcome.{Outcome, accepted, refused, unplaced, outcome}
 use Rattle.lexical.specs.Lexical.{number}
-use Rattle.decoder.specs.Data.{item, trailer}
+use Rattle.body.specs.Data.{item, trailer, bytesOf}
 use Rattle.decoder.specs.declared.XbmStreamDecoder.{XbmStreamDecoder}
 use Rattle.decoder.specs.declared.NextByte.{NextByte}
 use Rattle.decoder.specs.declared.NextByte.the-variants.{Byte, Done, Refused, Foreign}
 use Rattle.decoder.specs.declared.Stepped.{Stepped}
-
--- the bytes of a row, and of a picture
-abbrev pub rowBytes : ℕ → ℕ
-rowBytes w = (w + 7) / 8
-
-abbrev pub bytesOf : ℕ → ℕ → ℕ
-bytesOf w h = rowBytes w * h
 
 -- document 01's foreign decoder: numbers that no header of this text gave, or a place that the text has not
 unfoldable pub foreign : List ℕ → XbmStreamDecoder → Bool

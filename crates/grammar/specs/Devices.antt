@@ -5,8 +5,7 @@ use Prim.Native.Nat.{ℕ}
 use Rattle.text.specs.Reader.{Reader, _>>=_, _>>_}
 use Rattle.text.specs.Leaf.{give}
 use Rattle.header.specs.Header.{Head, header}
-use Rattle.decoder.specs.Data.{items, closing, tail}
-use Rattle.decoder.specs.Step.{bytesOf}
+use Rattle.body.specs.Data.{items, closing, tail, bytesOf}
 use Rattle.grammar.specs.Grammar.{Mask}
 
 abbrev pub headOf : Mask → Head

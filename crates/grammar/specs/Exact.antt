@@ -18,8 +18,7 @@ use Rattle.text.specs.Leaf.{give}
 use Rattle.lexical.specs.Lexical.{byte}
 use Rattle.hex.specs.Hex.{within, hexOf, hexv, hexDigit, isMark, hexStart, hexDigits, hexUnit, hexByte}
 use Rattle.header.specs.Header.{Head, header}
-use Rattle.decoder.specs.Data.{item, items, brace, closing, tail, trailer}
-use Rattle.decoder.specs.Step.{bytesOf}
+use Rattle.body.specs.Data.{item, items, brace, closing, tail, trailer, bytesOf}
 use Rattle.grammar.specs.Lang.{Lang, Word, _·_, _∣_}
 use Rattle.grammar.specs.Grammar.{space, Hex, Byte, Loose, Further, Data, Closing, Mask, Header, Format}
 use Rattle.grammar.specs.Bind.{bind-case, bind-ok}

@@ -15,7 +15,7 @@ use Rattle.integer.specs.Decimal.{isDigit, digitsFrom}
 use Rattle.symbol.specs.Symbol.{endsWith, before}
 use Rattle.lines.specs.Lines.{positive, widthLine, element, arrayLine}
 use Rattle.header.specs.Header.{rest as restOf, header}
-use Rattle.decoder.specs.Data.{item, items, brace, closing, tail}
+use Rattle.body.specs.Data.{item, items, brace, closing, tail}
 use Rattle.grammar.specs.Grammar.{Mask, Format}
 use Rattle.grammar.specs.Devices.{body, front, text}
 use Rattle.grammar.specs.Exact.{exactly}

@@ -22,7 +22,7 @@ use Rattle.header.specs.declared.HeaderRead.the-variants.{Read as HeadRead, Ref
 use Rattle.header.specs.declared.HeaderAnswer.{HeaderAnswer}
 use Rattle.header.specs.Header.{Head, header}
 use Rattle.header.specs.Answer.{headOf, nameLength, Headed}
-use Rattle.decoder.specs.Data.{logOf}
+use Rattle.body.specs.Data.{logOf}
 use Rattle.image.specs.declared.ImageRead.{ImageRead}
 use Rattle.image.specs.declared.ImageRead.the-variants.{Read as ImageIs, Refused as ImageRefused, DimensionMismatch}
 use Rattle.image.specs.declared.LimitedRead.{LimitedRead}

@@ -15,7 +15,7 @@ use Rattle.symbol.specs.Symbol.{stored}
 use Rattle.header.specs.declared.XbmHeaderData.{XbmHeaderData}
 use Rattle.header.specs.Header.{Head, header}
 use Rattle.header.specs.Answer.{headOf}
-use Rattle.decoder.specs.Data.{logOf}
+use Rattle.body.specs.Data.{logOf}
 use Rattle.cells.specs.Cells.{painted, count}
 use Rattle.rows.specs.Rows.{whole}
 use Rattle.image.specs.declared.ImageRead.{ImageRead}

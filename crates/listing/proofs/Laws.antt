@@ -1,74 +1,35 @@
 -- What a step of the code says of the listing.
-use mathlib.Core.Path.{_≡_, refl, sym, ap, _∙_}
+use mathlib.Core.Path.{_≡_, refl, ap, _∙_}
 use Prim.Native.Nat.{ℕ, _*_, _≤_, _<_}
-use mir.Syntax.{w32}
-use mir.Val.{SFits, toZ, ofZ}
-use mir.ValLaws.{toZ-ofZ}
-use mathlib.Core.Option.{none, some}
-use mathlib.Core.List.{List, [], _++_, append-nil}
+use mathlib.Core.List.{List, []}
 use lib.ListN.{length, take}
-use lib.IntN.{ℤ}
 use borrow.Author.Tests.{lt-ltb, le-ltb}
-use Rattle.text.specs.Ascii.{ascii}
-use Rattle.text.specs.declared.TextLocation.{TextLocation}
-use Rattle.text.specs.Outcome.{refused, unplaced}
 use Rattle.error.specs.declared.Refusal.{Refusal}
 use Rattle.error.specs.declared.Refusal.the-variants.{Placed, Unplaced}
 use Rattle.error.specs.Error.{toldRefusal}
 use Rattle.header.specs.declared.XbmHeaderData.{XbmHeaderData}
-use Rattle.header.specs.declared.Hotspot.{Hotspot}
-use Rattle.header.specs.declared.Hotspot.the-variants.{Absent, At}
-use Rattle.header.specs.Answer.{headOf, hotOf}
+use Rattle.header.specs.Answer.{headOf}
 use Rattle.ink.specs.Ink.{inkOf}
 use Rattle.image.specs.declared.LimitedRead.the-variants.{Read, Refused as NotRead}
 use Rattle.image.specs.declared.LimitedAnswer.{LimitedAnswer}
 use Rattle.image.specs.Limited.{limitedReading, Limited}
-use Rattle.print.specs.Output.{Output, output, puts, joined, puts-append}
-use Rattle.print.specs.Decimal.{signed}
+use Rattle.print.specs.Output.{Output, output, puts}
 use Rattle.print.proofs.Laws.{joined·laws}
 use Rattle.listing.specs.declared.ListAnswer.{ListAnswer}
 use Rattle.listing.specs.declared.ListAnswer.the-variants.{Accepted, Refused}
-use Rattle.listing.specs.Listing.{pairText, hotText, acceptedText, printed, inkIn, listedOf, listedText, Listed, listedWithin, answerText, Answered, Lists}
+use Rattle.printing.specs.Printed.{acceptedText, printed}
+use Rattle.listing.specs.Listing.{inkIn, listedOf, listedText, Listed, listedWithin, answerText, Answered, Lists}
 
 -- ---- what is put for an answer that is matched on
 
 module _ (o : Output) {z : Output} where
-  pub hot-absent : {h : Hotspot} → h ≡ Absent → z ≡ puts (hotText none) o → z ≡ puts (hotText (hotOf h)) o
-  hot-absent e k = rw e k
-
-  pub hot-at : {h : Hotspot} {x y : ℤ} → h ≡ At x y → z ≡ puts (hotText (some (x, y))) o → z ≡ puts (hotText (hotOf h)) o
-  hot-at e k = rw e k
-
   pub text-accepted : {a : ListAnswer} {d : XbmHeaderData} {n : ℕ} → a ≡ Accepted d n → z ≡ puts (acceptedText (headOf [] d) n) o → z ≡ puts (answerText a) o
   text-accepted e k = rw e k
 
   pub text-refused : {a : ListAnswer} {e : Refusal} → a ≡ Refused e → z ≡ puts (printed (toldRefusal e) 0) o → z ≡ puts (answerText a) o
   text-refused e k = rw e k
 
-  pub refusal-placed : {e : Refusal} {c : ℕ} {p : TextLocation} → e ≡ Placed c p → z ≡ puts (printed (refused c p) 0) o → z ≡ puts (printed (toldRefusal e) 0) o
-  refusal-placed e k = rw e k
-
-  pub refusal-unplaced : {e : Refusal} {c : ℕ} → e ≡ Unplaced c → z ≡ puts (printed (unplaced c) 0) o → z ≡ puts (printed (toldRefusal e) 0) o
-  refusal-unplaced e k = rw e k
-
--- two numbers with a sign; what a call is given of one is read off its bits
-module _ (x y : ℤ) (o : Output) where
-  pair-joined : puts (signed y) (puts (ascii " ") (puts (signed x) o)) ≡ puts (pairText x y) o
-  unfolding joined
-  pair-joined =
-      sym
-      (puts-append (signed x) (ascii " " ++ (signed y ++ [])) o
-      ∙ puts-append (ascii " ") (signed y ++ []) (puts (signed x) o)
-      ∙ ap (λ (w : List ℕ). puts w (puts (ascii " ") (puts (signed x) o))) (append-nil (signed y)))
-
-  pub pair-put : (o₁ o₂ z : Output) → SFits w32 x → SFits w32 y → o₁ ≡ puts (signed (toZ w32 (ofZ w32 x))) o → o₂ ≡ puts (ascii " ") o₁ → z ≡ puts (signed (toZ w32 (ofZ w32 y))) o₂
-      → z ≡ puts (pairText x y) o
-  pair-put o₁ o₂ z hx hy a b c =
-      let d : o₁ ≡ puts (signed x) o = a ∙ ap (λ (n : ℤ). puts (signed n) o) (toZ-ofZ w32 x hx) in
-      let e : o₂ ≡ puts (ascii " ") (puts (signed x) o) = b ∙ ap (puts (ascii " ")) d in
-      c ∙ ap (λ (n : ℤ). puts (signed n) o₂) (toZ-ofZ w32 y hy) ∙ ap (puts (signed y)) e ∙ pair-joined
-
-pub ruleset text·laws = (hot-absent, hot-at, text-accepted, text-refused, refusal-placed, refusal-unplaced, joined·laws)
+pub ruleset text·laws = (text-accepted, text-refused, joined·laws)
 
 -- ---- a text
 

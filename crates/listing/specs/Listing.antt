@@ -1,13 +1,9 @@
 -- What the listing program prints of a text: document 01's program, its limits included.
 use Prim.Native.Nat.{ℕ}
 use mathlib.Core.Path.{_≡_}
-use mathlib.Core.Option.{Option, none, some}
-use mathlib.Core.List.{List, [], _∷_}
+use mathlib.Core.List.{List, []}
 use lib.ListN.{length, take}
 use lib.Dec.{ltb}
-use lib.IntN.{ℤ}
-use Rattle.text.specs.Ascii.{ascii}
-use Rattle.text.specs.declared.TextLocation.{TextLocation}
 use Rattle.text.specs.Place.{pick}
 use Rattle.text.specs.Outcome.{Outcome, accepted, refused, unplaced}
 use Rattle.error.specs.Error.{toldRefusal}
@@ -16,8 +12,8 @@ use Rattle.header.specs.Answer.{headOf}
 use Rattle.ink.specs.Ink.{inkOf}
 use Rattle.image.specs.Reading.{Reading}
 use Rattle.image.specs.Limited.{cellsOf, limited}
-use Rattle.print.specs.Output.{output, puts, joined}
-use Rattle.print.specs.Decimal.{decimal, signed}
+use Rattle.print.specs.Output.{output, puts}
+use Rattle.printing.specs.Printed.{printed}
 use Rattle.listing.specs.declared.ListAnswer.{ListAnswer}
 use Rattle.listing.specs.declared.ListAnswer.the-variants.{Accepted, Refused}
 
@@ -27,43 +23,6 @@ textLimit = 65536
 
 abbrev pub cellLimit : ℕ
 cellLimit = 65536
-
--- ---- what is printed
-
--- a word and a number
-abbrev pub fieldText : List ℕ → ℕ → List ℕ
-fieldText w n = joined (w ∷ decimal n ∷ [])
-
--- two numbers, a space between
-abbrev pub pairText : ℤ → ℤ → List ℕ
-pairText x y = joined (signed x ∷ ascii " " ∷ signed y ∷ [])
-
--- as Xlib does, an absent hotspot prints as -1 -1
-abbrev pub hotText : Option (ℤ × ℤ) → List ℕ
-hotText none = ascii "-1 -1"
-hotText (some (x, y)) = pairText x y
-
--- the four lines of an accepted mask: width, height; hotspot; ink
-abbrev pub sidesText : ℕ → ℕ → List ℕ
-sidesText w h = joined (fieldText (ascii "width ") w ∷ fieldText (ascii "\nheight ") h ∷ [])
-
-abbrev pub hotspotText : Option (ℤ × ℤ) → List ℕ
-hotspotText o = joined (ascii "\nhotspot " ∷ hotText o ∷ [])
-
-abbrev pub inkText : ℕ → List ℕ
-inkText k = joined (fieldText (ascii "\nink ") k ∷ ascii "\n" ∷ [])
-
-abbrev pub acceptedText : Head → ℕ → List ℕ
-acceptedText h k = joined (sidesText (h .width) (h .height) ∷ hotspotText (h .hot) ∷ inkText k ∷ [])
-
--- a place, as `byte=71,line=3:col=34`
-abbrev pub placeText : TextLocation → List ℕ
-placeText p = joined (fieldText (ascii " byte=") (p .byte .0) ∷ fieldText (ascii ",line=") (p .line .0) ∷ fieldText (ascii ":col=") (p .column .0) ∷ [])
-
-abbrev pub printed : Outcome Head → ℕ → List ℕ
-printed (accepted h) k = acceptedText h k
-printed (refused c p) k = joined (fieldText (ascii "refused ") c ∷ placeText p ∷ ascii "\n" ∷ [])
-printed (unplaced c) k = joined (fieldText (ascii "refused ") c ∷ ascii "\n" ∷ [])
 
 -- ---- what is listed of a text, with a lent name buffer and lent cells
 

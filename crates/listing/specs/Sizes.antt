@@ -16,7 +16,8 @@ use Rattle.header.specs.Header.{Head}
 use Rattle.image.specs.Limited.{limited}
 use Rattle.print.specs.Output.{length-joined-two, length-joined-three}
 use Rattle.print.specs.Decimal.{decimal, signed, digits-short, signed-short}
-use Rattle.listing.specs.Listing.{fieldText, hotText, sidesText, hotspotText, inkText, acceptedText, placeText, printed, textLimit, cellLimit, unread, listedOf, listedWithin, listed, listing}
+use Rattle.printing.specs.Printed.{fieldText, hotText, sidesText, hotspotText, inkText, acceptedText, placeText, printed}
+use Rattle.listing.specs.Listing.{textLimit, cellLimit, unread, listedOf, listedWithin, listed, listing}
 
 -- ---- the output
 

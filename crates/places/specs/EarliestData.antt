@@ -14,8 +14,7 @@ use Rattle.text.specs.Reader.{Result, ok, stop, bad, then, Reader, _>>=_, _>>_}
 use Rattle.text.specs.Leaf.{give}
 use Rattle.text.specs.Outcome.{refused}
 use Rattle.header.specs.Header.{Head, header}
-use Rattle.decoder.specs.Data.{item, items, closing, tail, trailer}
-use Rattle.decoder.specs.Step.{rowBytes}
+use Rattle.body.specs.Data.{item, items, closing, tail, trailer, rowBytes}
 use Rattle.cells.specs.Cells.{count}
 use Rattle.rows.specs.Rows.{mismatch, ending, whole}
 use Rattle.image.specs.Reading.{picture, reading}

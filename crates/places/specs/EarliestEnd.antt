@@ -15,8 +15,7 @@ use Rattle.text.specs.Reader.{ok, stop, _>>=_, Same, same-take}
 use Rattle.text.specs.Leaf.{give}
 use Rattle.text.specs.Outcome.{refused}
 use Rattle.header.specs.Header.{Head, header, header-local}
-use Rattle.decoder.specs.Data.{items, closing, tail, trailer, items-local, closing-local, tail-local}
-use Rattle.decoder.specs.Step.{bytesOf}
+use Rattle.body.specs.Data.{items, closing, tail, trailer, items-local, closing-local, tail-local, bytesOf}
 use Rattle.cells.specs.Cells.{count}
 use Rattle.rows.specs.Rows.{mismatch, ending}
 use Rattle.image.specs.Reading.{reading}

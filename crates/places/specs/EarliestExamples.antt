@@ -17,7 +17,7 @@ use Rattle.integer.specs.Decimal.{isDigit, digitsFrom}
 use Rattle.symbol.specs.Symbol.{endsWith, before, opening}
 use Rattle.lines.specs.Lines.{positive, widthLine, element, arrayLine}
 use Rattle.header.specs.Header.{rest as restOf, header}
-use Rattle.decoder.specs.Data.{item, items, brace, closing, tail, trailer}
+use Rattle.body.specs.Data.{item, items, brace, closing, tail, trailer}
 use Rattle.rows.specs.Rows.{whole}
 use Rattle.image.specs.Reading.{picture, reading}
 use Rattle.grammar.specs.Lang.{Lang, Word, _·_, All, Many, Some, Star, stop as none-more}

@@ -13,7 +13,7 @@ use Rattle.lexical.specs.Token.{token}
 use Rattle.hex.specs.Hex.{hexv, hexOf, hexDigit, hexStart, hexDigits, hexUnit, isMark}
 use Rattle.symbol.specs.Symbol.{hashDefine}
 use Rattle.lines.specs.Lines.{element, arrayLine, line-laws}
-use Rattle.decoder.specs.Data.{item, items, brace, closing, tail}
+use Rattle.body.specs.Data.{item, items, brace, closing, tail}
 use Rattle.grammar.specs.Lang.{All}
 use Rattle.grammar.specs.Grammar.{solid}
 use Rattle.grammar.specs.Fits.{Follow, Any, End, Off, Next}

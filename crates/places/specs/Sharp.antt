@@ -14,7 +14,7 @@ use Rattle.text.specs.Leaf.{give, need, one, first, judge, go-on, stay, moved, 
 use Rattle.lexical.specs.Lexical.{is, while, lead, byte, skip, fixed, gap, lineEnd, leading, locals, byte-local, fixed-local}
 use Rattle.hex.specs.Hex.{hexv, hexDigit, hexStart, hexDigits, hexUnit, hexUnit-local, hexDigits-local, hexDigit-local}
 use Rattle.lines.specs.Lines.{element, arrayLine, line-laws}
-use Rattle.decoder.specs.Data.{item, items, brace, closing, tail, trailer, item-local, items-local, closing-local, trailer-local, brace-local}
+use Rattle.body.specs.Data.{item, items, brace, closing, tail, trailer, item-local, items-local, closing-local, trailer-local, brace-local}
 use Rattle.cells.specs.Cells.{count}
 use Rattle.rows.specs.Rows.{ending, whole, ending-local}
 

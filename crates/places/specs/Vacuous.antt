@@ -20,7 +20,7 @@ use Rattle.integer.specs.Decimal.{isDigit, digitsFrom}
 use Rattle.symbol.specs.Symbol.{endsWith, before}
 use Rattle.lines.specs.Lines.{positive, widthLine, element, arrayLine}
 use Rattle.header.specs.Header.{rest as restOf, Head, header}
-use Rattle.decoder.specs.Data.{item, items, brace, closing, tail, trailer, logOf}
+use Rattle.body.specs.Data.{item, items, brace, closing, tail, trailer, logOf}
 use Rattle.cells.specs.Cells.{cell, painted}
 use Rattle.rows.specs.Rows.{whole}
 use Rattle.image.specs.Reading.{picture, reading}

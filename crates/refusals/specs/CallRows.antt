@@ -17,7 +17,7 @@ use Rattle.text.specs.PlaceLaws.{sound-rest}
 use Rattle.text.specs.Rest.{Reach, reach-inside, walk-ahead, walk-unique}
 use Rattle.text.specs.Reader.{Result, ok, stop, bad, Reader}
 use Rattle.text.specs.Outcome.{Outcome, accepted, refused, outcome}
-use Rattle.decoder.specs.Data.{item, trailer, closing, tail, item-local, trailer-local}
+use Rattle.body.specs.Data.{item, trailer, closing, tail, item-local, trailer-local}
 use Rattle.decoder.specs.declared.XbmStreamDecoder.{XbmStreamDecoder}
 use Rattle.decoder.specs.Step.{foreign, stepOf}
 use Rattle.grammar.specs.Lang.{Lang, _·_}

@@ -17,9 +17,9 @@ use Rattle.text.specs.Reader.{Result, ok, stop, bad, endOf, then, _>>=_, _>>_}
 use Rattle.text.specs.Leaf.{give, run, fork, eot, endIf}
 use Rattle.text.specs.Outcome.{Outcome, accepted, refused, unplaced, outcome}
 use Rattle.lexical.specs.Lexical.{isLoose, skip}
-use Rattle.decoder.specs.Data.{item, trailer, closing, brace, tail, trailer-local}
+use Rattle.body.specs.Data.{item, trailer, closing, brace, tail, trailer-local, bytesOf}
 use Rattle.decoder.specs.declared.XbmStreamDecoder.{XbmStreamDecoder}
-use Rattle.decoder.specs.Step.{bytesOf, foreign, more, called, spent, placedAt, stepOf}
+use Rattle.decoder.specs.Step.{foreign, more, called, spent, placedAt, stepOf}
 use Rattle.grammar.specs.Bind.{bind-case, bind-ok, bind-stop}
 use Rattle.claims.specs.Numbers.{Numbered, bind-numbered, give-numbered, item-numbered, trailer-numbered, unplaced-number}
 use Rattle.claims.specs.Steps.{Native, not-foreign, sizeOf, next-answer, last-answer}

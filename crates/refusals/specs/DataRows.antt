@@ -16,8 +16,7 @@ use Rattle.text.specs.Reader.{Result, ok, stop, bad, Reader, _>>=_}
 use Rattle.text.specs.Leaf.{give}
 use Rattle.text.specs.Outcome.{refused, outcome}
 use Rattle.header.specs.Header.{Head, header}
-use Rattle.decoder.specs.Data.{item, items}
-use Rattle.decoder.specs.Step.{rowBytes}
+use Rattle.body.specs.Data.{item, items, rowBytes}
 use Rattle.rows.specs.Rows.{mismatch, ending, whole}
 use Rattle.image.specs.Reading.{picture, reading}
 use Rattle.grammar.specs.Lang.{_·_}

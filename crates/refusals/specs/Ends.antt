@@ -14,7 +14,7 @@ use Rattle.text.specs.Reader.{Result, ok, stop, bad, then, _>>=_}
 use Rattle.text.specs.Leaf.{give, need}
 use Rattle.text.specs.Outcome.{Outcome, accepted, refused, unplaced, outcome}
 use Rattle.header.specs.Header.{Head, header}
-use Rattle.decoder.specs.Data.{item, items, closing, tail, trailer}
+use Rattle.body.specs.Data.{item, items, closing, tail, trailer}
 use Rattle.cells.specs.Cells.{count}
 use Rattle.rows.specs.Rows.{ending, whole}
 use Rattle.image.specs.Reading.{picture, reading}

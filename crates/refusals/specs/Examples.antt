@@ -15,7 +15,7 @@ use Rattle.integer.specs.Decimal.{isDigit, digitsFrom}
 use Rattle.symbol.specs.Symbol.{endsWith, before, opening, stored}
 use Rattle.lines.specs.Lines.{positive, widthLine, element, arrayLine}
 use Rattle.header.specs.Header.{rest as restOf, header}
-use Rattle.decoder.specs.Data.{item, items, brace, closing, tail, trailer, logOf}
+use Rattle.body.specs.Data.{item, items, brace, closing, tail, trailer, logOf}
 use Rattle.cells.specs.Cells.{cell, painted}
 use Rattle.rows.specs.Rows.{whole}
 use Rattle.image.specs.Reading.{picture, reading}

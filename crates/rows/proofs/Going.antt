@@ -23,10 +23,9 @@ use Rattle.lexical.specs.Lexical.{number, told}
 use Rattle.lexical.specs.declared.ByteRead.{ByteRead}
 use Rattle.lexical.specs.declared.ByteRead.the-variants.{Got, Refused as Wrong}
 use Rattle.lexical.specs.Lexical.{toldByte}
-use Rattle.decoder.specs.Data.{Log, item, items, trailer, logOf}
+use Rattle.body.specs.Data.{Log, item, items, trailer, logOf, rowBytes}
 use Rattle.rows.specs.declared.Rows.{Rows}
 use Rattle.rows.specs.declared.Rows.the-variants.{Done, Refused, Mismatch}
-use Rattle.decoder.specs.Step.{rowBytes}
 use Rattle.cells.specs.Cells.{cell, count}
 use Rattle.cells.specs.Stores.{dab, unpacked}
 use Rattle.rows.specs.Rows.{toldRows, ending, whole, Filled}

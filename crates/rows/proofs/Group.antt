@@ -22,7 +22,7 @@ use Rattle.lexical.specs.declared.ByteRead.{ByteRead}
 use Rattle.lexical.specs.declared.ByteRead.the-variants.{Got, Refused as NotGot}
 use Rattle.lexical.specs.declared.XbmPart.{XbmPart}
 use Rattle.hex.specs.Hex.{hexOf, hexv, hexDigit, hexStart, hexDigits, hexUnit, isMark}
-use Rattle.decoder.specs.Data.{item}
+use Rattle.body.specs.Data.{item}
 use Rattle.rows.specs.declared.Quick.{Quick}
 use Rattle.rows.specs.declared.Quick.the-variants.{Hit, Miss}
 use Rattle.rows.specs.Quick.{Four, Meets}

@@ -11,7 +11,7 @@ use Rattle.text.specs.Reader.{Reader, _>>=_, _>>_, Local, bind-local}
 use Rattle.text.specs.Leaf.{give, need}
 use Rattle.text.specs.Outcome.{Outcome, accepted, refused, unplaced, outcome}
 use Rattle.lexical.specs.Lexical.{number, locals}
-use Rattle.decoder.specs.Data.{item, items, trailer, logOf, item-local, items-local, trailer-local}
+use Rattle.body.specs.Data.{item, items, trailer, logOf, item-local, items-local, trailer-local}
 use Rattle.cells.specs.Cells.{painted, count}
 use Rattle.rows.specs.declared.Rows.{Rows}
 use Rattle.rows.specs.declared.Rows.the-variants.{Done, Refused, Mismatch}

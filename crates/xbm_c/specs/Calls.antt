@@ -17,7 +17,7 @@ use Rattle.integer.specs.Decimal.{isDigit, digitsFrom}
 use Rattle.symbol.specs.Symbol.{endsWith, before}
 use Rattle.lines.specs.Lines.{positive, widthLine, element, arrayLine}
 use Rattle.header.specs.Header.{rest as restLines, header}
-use Rattle.decoder.specs.Data.{item, items, brace, closing, tail, trailer}
+use Rattle.body.specs.Data.{item, items, brace, closing, tail, trailer}
 use Rattle.rows.specs.Rows.{whole}
 use Rattle.image.specs.Reading.{picture, reading}
 use Rattle.report.specs.declared.Summary.{Summary}

@@ -11,7 +11,7 @@ use Rattle.text.specs.Leaf.{give, one, run, fork, eot}
 use Rattle.lexical.specs.Lexical.{isBlank, isLoose, byte, skip, fixed}
 use Rattle.hex.specs.Hex.{hexOf, hexv, hexDigit, isMark, hexStart, hexDigits, hexUnit}
 use Rattle.decoder.specs.declared.XbmStreamDecoder.{XbmStreamDecoder}
-use Rattle.decoder.specs.Data.{item, brace, closing, tail, trailer}
+use Rattle.body.specs.Data.{item, brace, closing, tail, trailer}
 use Rattle.decoder.specs.Step.{foreign, called, stepOf}
 use Rattle.report.specs.Next.{reported}
 use Rattle.xbm_c.specs.Next.{resultAt, decoderAt, reportAt}

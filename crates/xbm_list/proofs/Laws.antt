@@ -11,7 +11,8 @@ use Rattle.header.specs.Header.{header}
 use Rattle.image.specs.Limited.{afterHeader, limited}
 use Rattle.print.specs.Output.{Output, output, puts, joined, puts-start}
 use Rattle.print.specs.Decimal.{digits}
-use Rattle.listing.specs.Listing.{Listed, listedOf, printed, listed, listing, Lists}
+use Rattle.printing.specs.Printed.{printed}
+use Rattle.listing.specs.Listing.{Listed, listedOf, listed, listing, Lists}
 use Rattle.listing.specs.Sizes.{listing-short, listed-long, listed-short, listed-beginning}
 use Rattle.xbm_list.specs.Program.{Holds, Prints, ListsInput}
 

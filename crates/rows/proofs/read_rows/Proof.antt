@@ -1,5 +1,5 @@
 -- The rows are read as the definition says: before each data byte the loop's state is as `Going` has it, and each way on is one of its laws.
-use Rattle.decoder.specs.Step.{rowBytes}
+use Rattle.body.specs.Data.{rowBytes}
 use Rattle.cells.specs.Cells.{count}
 use Rattle.rows.proofs.Going.{Going, going·laws, room·laws, eight-inside, rest-inside, rest-fits}
 use Prim.Native.Nat.{_+_, _-_, _*_, _/_}

@@ -1,0 +1,2 @@
+-- What the proofs of `body` share.
+pub mod Laws

@@ -1,0 +1,24 @@
+-- `body::then_end` meets its contract: each return is a law (`onto·laws`).
+use Rattle.lexical.proofs.Laws.{onto·laws}
+use borrow.Author.Needs.{needs}
+use Rattle.body.proofs.then_end.Statement.{statement}
+use Rattle.body.proofs.then_end.Tie as tie
+
+enum-known-before : tie.Need-enum-known-before
+enum-known-before c = search needs
+
+read-end-requires : tie.Need-read-end-requires
+read-end-requires c κs = search needs
+
+enum-known-before-2 : tie.Need-enum-known-before-2
+enum-known-before-2 c = search needs
+
+returns : tie.Need-returns
+returns c = search (onto·laws, needs)
+
+returns-2 : tie.Need-returns-2
+returns-2 c = search (onto·laws, needs)
+
+pub then-end-spec : {M : Type 1} → statement M
+then-end-spec =
+    tie.close (tie.spec enum-known-before read-end-requires enum-known-before-2 returns returns-2)

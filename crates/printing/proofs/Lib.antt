@@ -1,0 +1,2 @@
+-- The laws of `printing`.
+pub mod Laws

@@ -1,0 +1,34 @@
+-- `printing::put_sides` meets its contract: each return is a law (`text·laws`).
+use borrow.Author.Needs.{needs}
+use Rattle.printing.proofs.Laws.{text·laws}
+use Rattle.printing.proofs.put_sides.Statement.{statement}
+use Rattle.printing.proofs.put_sides.Tie as tie
+
+slice-aggregate-put-field : tie.Need-slice-aggregate-put-field
+slice-aggregate-put-field c = search needs
+
+put-field-requires : tie.Need-put-field-requires
+put-field-requires c κs = search needs
+
+slice-aggregate-put-field-2 : tie.Need-slice-aggregate-put-field-2
+slice-aggregate-put-field-2 c = search needs
+
+put-field-requires-2 : tie.Need-put-field-requires-2
+put-field-requires-2 c κs = search needs
+
+same-length : tie.Need-same-length
+same-length c = search needs
+
+returns : tie.Need-returns
+returns c = search (text·laws, needs)
+
+pub put-sides-spec : {M : Type 1} → statement M
+put-sides-spec =
+    tie.close
+    (tie.spec
+    slice-aggregate-put-field
+    put-field-requires
+    slice-aggregate-put-field-2
+    put-field-requires-2
+    same-length
+    returns)

@@ -1,0 +1,2 @@
+-- The definitions of `printing`.
+pub mod Printed
