@@ -308,7 +308,3 @@ module _ (w h rows : ℕ) (t : List ℕ) (i₀ : TextLocation) (lent : List ℕ)
           go : (b : Bool) → eqb (length lent / w) h ≡ b → Filled w h t i₀ lent p (Refused part q)
           go true u = ended (Refused part q) (last hy) (rw (u, ← o))
           go false u = ended (Refused part q) (last hy) (rw (u, le-ltb (length lent / w) h (omega (arith, last hy)), ← o))
-
-pub ruleset room·laws = (left-fits, start-fits, next-fits, eight-inside, eight-fits, rest-inside, rest-fits)
-
-pub ruleset going·laws = (going-start, going-more, going-next, fewer-more, fewer-next, going-few, going-wrong, going-done, going-many, going-bad)
