@@ -1,4 +1,3 @@
 -- The definitions of `report` and examples of them, by module.
 pub mod Report
-pub mod Next
 pub mod Examples

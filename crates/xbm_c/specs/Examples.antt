@@ -13,7 +13,7 @@ use Rattle.hex.specs.Hex.{hexOf, hexv, hexDigit, isMark, hexStart, hexDigits, h
 use Rattle.decoder.specs.declared.XbmStreamDecoder.{XbmStreamDecoder}
 use Rattle.body.specs.Data.{item, brace, closing, tail, trailer}
 use Rattle.decoder.specs.Step.{foreign, called, stepOf}
-use Rattle.report.specs.Next.{reported}
+use Rattle.byte_report.specs.Next.{reported}
 use Rattle.xbm_c.specs.Next.{resultAt, decoderAt, reportAt}
 
 abbrev mask : List ℕ

@@ -3,7 +3,7 @@ use Prim.Native.Nat.{ℕ}
 use mathlib.Core.List.{List}
 use Rattle.decoder.specs.declared.XbmStreamDecoder.{XbmStreamDecoder}
 use Rattle.decoder.specs.Step.{stepOf}
-use Rattle.report.specs.Next.{nextNumber, nextReport}
+use Rattle.byte_report.specs.Next.{nextNumber, nextReport}
 
 -- a call on a text and the decoder lent: its result, and the later decoder and report
 abbrev pub resultAt : List ℕ → XbmStreamDecoder → ℕ

@@ -2,15 +2,15 @@
 ghost use mathlib.Core.Path.{_≡_};
 ghost use Rattle.xbm_c.specs.Next.{resultAt, decoderAt, reportAt};
 ghost use Rattle.xbm_c.specs.Told.{HeaderCall, ImageCall};
+use byte_report::tell;
 use decoder::XbmStreamDecoder;
 use decoder::next_byte;
 use header::read_xbm_header;
 use image::read_image;
-use report::header_told;
-use report::image_told;
-use report::tell;
 use report::write_hotspot;
 use report::write_report;
+use summary::header_told;
+use summary::image_told;
 
 // Reads the header into the lent name buffer.
 #[no_mangle]

@@ -55,11 +55,11 @@ use Rattle.decoder.proofs.next_byte as nb
 use Rattle.decoder.proofs.next_byte.Symbol as nb-def
 use Rattle.decoder.proofs.next_byte.Symbol.{name as #decoder·next-byte}
 use Rattle.decoder.proofs.next_byte.Met as nb-thm
-use Rattle.report.specs.Next.{nextNumber, nextReport}
-use Rattle.report.proofs.tell as tell
-use Rattle.report.proofs.tell.Symbol as tell-def
-use Rattle.report.proofs.tell.Symbol.{name as #report·tell}
-use Rattle.report.proofs.tell.Met as tell-thm
+use Rattle.byte_report.specs.Next.{nextNumber, nextReport}
+use Rattle.byte_report.proofs.tell as tell
+use Rattle.byte_report.proofs.tell.Symbol as tell-def
+use Rattle.byte_report.proofs.tell.Symbol.{name as #byte_report·tell}
+use Rattle.byte_report.proofs.tell.Met as tell-thm
 use Rattle.xbm_c.proofs.xbm_next_byte.Key.{name as #xbm_c·xbm-next-byte}
 use Rattle.xbm_c.proofs.xbm_next_byte as next
 use Rattle.xbm_c.proofs.xbm_next_byte.Statement as stated
@@ -143,7 +143,7 @@ module _ {M : Type 1} (𝓤 : URA M) (H : Heap 𝓤) (A : Atoms 𝓤) (W : Given
       -- [the number; the report's last value; obs; the borrow; what the text owns]
       move ! (2 ∷ 3 ∷ []) $ feqI ! (List Val) (vptr b o ∷ []) (vptr b o ∷ []) refl $ fjoin3 ! $ nothing ! $ move ! (3 ∷ 0 ∷ []) $ fjoin ! $ move ! (1 ∷ 0 ∷ []) $ fjoin ! $ move ! (2 ∷ 0 ∷ []) $ fjoin ! $ frame ! $ done !
 
-  module _ (C : Calls 𝓤 H) (Λ : Loops 𝓤 H) (fm : FmC 𝓤 H (W .laws) C) (known-next : Triple 𝓤 (C #decoder·next-byte) (NextC 𝓤 H A at-mem run)) (known-tell : Triple 𝓤 (C #report·tell) (TellC 𝓤 H A at-mem run)) where
+  module _ (C : Calls 𝓤 H) (Λ : Loops 𝓤 H) (fm : FmC 𝓤 H (W .laws) C) (known-next : Triple 𝓤 (C #decoder·next-byte) (NextC 𝓤 H A at-mem run)) (known-tell : Triple 𝓤 (C #byte_report·tell) (TellC 𝓤 H A at-mem run)) where
     walk : Is (ShrSlice (named 0) κ u8) s (v ∷ []) → ent 𝓤 (onEntry 𝓤 H A next.signature (κ, (κ′, (κ″, tt))) (q, (q′, (q″, tt))) a at) (WpFn 𝓤 H C Λ code.function (v ∷ vptr b o ∷ vptr b′ o′ ∷ []) Post)
     walk g =
         qed W ((‵ (flft κ q) ⊛ ‵ (flft κ′ q′) ⊛ ‵ (flft κ″ q″) ⊛ ‵ ftrue) ∷ ‵ (owns (ShrSlice (named 0) κ u8 ∷ MutRef (named 1) κ′ T.the-row ∷ MutRef (named 2) κ″ R ∷ []) a at) ∷ []) ∵ enter ! C Λ code.function (v ∷ vptr b o ∷ vptr b′ o′ ∷ []) _ $
@@ -193,11 +193,11 @@ module _ {M : Type 1} (𝓤 : URA M) (H : Heap 𝓤) (A : Atoms 𝓤) (W : Given
         by ! (exits n w (ws .1 .0) (zs .1 .1 .0) (e′ .0 ∙ ap (λ (k : Step). nextNumber (k .answer)) e, ap (λ (k : Step). k .decoder) e, e′ .1 ∙ ap (λ (k : Step). nextReport (k .answer) (k .decoder)) e))))))))))))))))))))))))
 
 module _ {M : Type 1} (𝓤 : URA M) (H : Heap 𝓤) (A : Atoms 𝓤) (W : Given 𝓤 H A) (at-mem : Memory → SProp 𝓤) (run : Routine → Fun 𝓤) where
-  next-walks : (C : Calls 𝓤 H) (Λ : Loops 𝓤 H) → FmC 𝓤 H (W .laws) C → Triple 𝓤 (C #decoder·next-byte) (NextC 𝓤 H A at-mem run) → Triple 𝓤 (C #report·tell) (TellC 𝓤 H A at-mem run) → Walks 𝓤 H A next.ended stayed (WpFn 𝓤 H C Λ code.function) (next.clauses 𝓤 H A at-mem run)
+  next-walks : (C : Calls 𝓤 H) (Λ : Loops 𝓤 H) → FmC 𝓤 H (W .laws) C → Triple 𝓤 (C #decoder·next-byte) (NextC 𝓤 H A at-mem run) → Triple 𝓤 (C #byte_report·tell) (TellC 𝓤 H A at-mem run) → Walks 𝓤 H A next.ended stayed (WpFn 𝓤 H C Λ code.function) (next.clauses 𝓤 H A at-mem run)
   next-walks C Λ fm known-next known-tell = walked 𝓤 H A next.ended stayed (next.clauses 𝓤 H A at-mem run) (WpFn 𝓤 H C Λ code.function) (λ κs. (slice-vals, (ptr-vals, (ptr-vals, tt)))) (λ κs. (shr-slice-tells (named 0) (κs .0) u8, (mut-tells (named 1) (κs .1 .0) T.the-row, (mut-tells (named 2) (κs .1 .1 .0) R, tt))))
       (λ κs qs bounds a _ are. via 𝓤 _ (fst∗ 𝓤 _ (emp 𝓤)) (walk 𝓤 H A W at-mem run (κs .0) (κs .1 .0) (κs .1 .1 .0) (qs .0) (qs .1 .0) (qs .1 .1 .0) (a .0) (a .1 .0 .ptr .0) (a .1 .0 .ptr .1) (a .1 .0 .name) (a .1 .0 .now) (a .1 .1 .0 .ptr .0) (a .1 .1 .0 .ptr .1) (a .1 .1 .0 .name) (a .1 .1 .0 .now) C Λ fm known-next known-tell (are .0)))
 
-next-meets : {M : Type 1} (𝓤 : URA M) (H : Heap 𝓤) (A : Atoms 𝓤) → Given 𝓤 H A → (at-mem : Memory → SProp 𝓤) (run : Routine → Fun 𝓤) (𝓣 : Tables 𝓤 H) → Triple 𝓤 (𝓣 .C #decoder·next-byte) (NextC 𝓤 H A at-mem run) → Triple 𝓤 (𝓣 .C #report·tell) (TellC 𝓤 H A at-mem run)
+next-meets : {M : Type 1} (𝓤 : URA M) (H : Heap 𝓤) (A : Atoms 𝓤) → Given 𝓤 H A → (at-mem : Memory → SProp 𝓤) (run : Routine → Fun 𝓤) (𝓣 : Tables 𝓤 H) → Triple 𝓤 (𝓣 .C #decoder·next-byte) (NextC 𝓤 H A at-mem run) → Triple 𝓤 (𝓣 .C #byte_report·tell) (TellC 𝓤 H A at-mem run)
     → Meets 𝓤 H A next.signature (WpFn 𝓤 H (𝓣 .C) (𝓣 .Λ) code.function) (next.spec 𝓤 H A at-mem run)
 next-meets 𝓤 H A W at-mem run 𝓣 known-next known-tell = walk-meets 𝓤 H A next.ended stayed W (goes-none-slice 𝓤 H A W 3 (0 ∷ []) tt (plain (λ _. u8)) yes, (goes-ref 𝓤 H A W 3 1 tt (plain (λ _. T.the-row)), (goes-gave-ref 𝓤 H A W 3 2 tt (plain (λ _. R)), tt))) (next.clauses 𝓤 H A at-mem run)
     (WpFn 𝓤 H (𝓣 .C) (𝓣 .Λ) code.function) (WpFn-mono 𝓤 H (W .laws) 𝓣 code.function) (next-walks 𝓤 H A W at-mem run (𝓣 .C) (𝓣 .Λ) (fmOf 𝓤 H (W .laws) 𝓣) known-next known-tell)
@@ -209,4 +209,4 @@ xbm-next-byte-spec 𝓤 H 𝓜 𝓖 𝓡 =
     (tables 𝓤 H 𝓜 𝓡 code.env .C) (tables 𝓤 H 𝓜 𝓡 code.env .Λ) #xbm_c·xbm-next-byte code.function (code.unfolded 𝓤 H 𝓜 𝓡)
     (next-meets 𝓤 H (𝓖 .A) (givenOf 𝓤 H 𝓜 𝓖) (𝓜 .mem) (𝓡 .run) (tablesOf 𝓤 H 𝓜 (tables 𝓤 H 𝓜 𝓡 code.env))
     (cited 𝓤 H (NextC 𝓤 H (𝓖 .A) (𝓜 .mem) (𝓡 .run)) 𝓜 𝓡 code.env #decoder·next-byte nb-def.routine code.calls-decoder·next-byte (nb-thm.met 𝓤 H 𝓜 𝓖 𝓡))
-    (cited 𝓤 H (TellC 𝓤 H (𝓖 .A) (𝓜 .mem) (𝓡 .run)) 𝓜 𝓡 code.env #report·tell tell-def.routine code.calls-report·tell (tell-thm.met 𝓤 H 𝓜 𝓖 𝓡)))
+    (cited 𝓤 H (TellC 𝓤 H (𝓖 .A) (𝓜 .mem) (𝓡 .run)) 𝓜 𝓡 code.env #byte_report·tell tell-def.routine code.calls-byte-report·tell (tell-thm.met 𝓤 H 𝓜 𝓖 𝓡)))

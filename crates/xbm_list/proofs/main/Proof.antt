@@ -1,7 +1,6 @@
--- `xbm_list::main` meets its contract: what came is within the text buffer (`came-inside`), what is written is a part of the output (`taken-size`).
+-- `xbm_list::main` meets its contract: what is written is a part of the output (`taken-size`).
 use borrow.Author.Needs.{needs}
-use Rattle.input.proofs.Laws.{came-inside}
-use Rattle.xbm_list.proofs.Laws.{taken-size}
+use Rattle.program.proofs.Laws.{taken-size}
 use Rattle.xbm_list.proofs.main.Statement.{statement}
 use Rattle.xbm_list.proofs.main.Tie as tie
 
@@ -30,7 +29,7 @@ name-buffer-requires : tie.Need-name-buffer-requires
 name-buffer-requires c κs = search needs
 
 list-input-requires : tie.Need-list-input-requires
-list-input-requires c κs = search (came-inside, needs)
+list-input-requires c κs = search needs
 
 array-share-prefix-out : tie.Need-array-share-prefix-out
 array-share-prefix-out c = search needs

@@ -10,10 +10,10 @@ use Rattle.decoder.specs.declared.XbmStreamDecoder.{XbmStreamDecoder}
 use Rattle.decoder.specs.declared.NextByte.{NextByte}
 use Rattle.decoder.specs.declared.NextByte.the-variants.{Byte, Done, Refused, Foreign}
 use Rattle.decoder.specs.Step.{toldNext}
-use Rattle.report.specs.Next.{reported, nextNumber, nextReport}
+use Rattle.byte_report.specs.Next.{reported, nextNumber, nextReport}
 use Rattle.text.specs.Place.{nowhere}
-use Rattle.report.proofs.tell.Statement.{statement}
-use Rattle.report.proofs.tell.Tie as tie
+use Rattle.byte_report.proofs.tell.Statement.{statement}
+use Rattle.byte_report.proofs.tell.Tie as tie
 
 -- the report in each arm, and the number of a refusal
 module _ (a : NextByte) (d : XbmStreamDecoder) {l : List ℕ} where

@@ -1,8 +1,8 @@
 -- `header_told` meets its contract: the sides and hotspot of an accepted header, or the refusal.
 use borrow.Author.Needs.{needs}
-use Rattle.report.proofs.Laws.{answer·laws}
-use Rattle.report.proofs.header_told.Statement.{statement}
-use Rattle.report.proofs.header_told.Tie as tie
+use Rattle.summary.proofs.Laws.{answer·laws}
+use Rattle.summary.proofs.header_told.Statement.{statement}
+use Rattle.summary.proofs.header_told.Tie as tie
 
 enum-known-header : tie.Need-enum-known-header
 enum-known-header c = search needs

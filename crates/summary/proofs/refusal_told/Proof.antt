@@ -1,8 +1,8 @@
 -- `refusal_told` meets its contract: each case gives its number, and its place or none.
 use borrow.Author.Needs.{needs}
-use Rattle.report.proofs.Laws.{refusal·laws}
-use Rattle.report.proofs.refusal_told.Statement.{statement}
-use Rattle.report.proofs.refusal_told.Tie as tie
+use Rattle.summary.proofs.Laws.{refusal·laws}
+use Rattle.summary.proofs.refusal_told.Statement.{statement}
+use Rattle.summary.proofs.refusal_told.Tie as tie
 
 enum-known-refusal : tie.Need-enum-known-refusal
 enum-known-refusal c = search needs

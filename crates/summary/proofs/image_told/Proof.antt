@@ -1,8 +1,8 @@
 -- `image_told` meets its contract: the sides and hotspot of an accepted picture, the refusal, or rows that are not its own.
 use borrow.Author.Needs.{needs}
-use Rattle.report.proofs.Laws.{answer·laws}
-use Rattle.report.proofs.image_told.Statement.{statement}
-use Rattle.report.proofs.image_told.Tie as tie
+use Rattle.summary.proofs.Laws.{answer·laws}
+use Rattle.summary.proofs.image_told.Statement.{statement}
+use Rattle.summary.proofs.image_told.Tie as tie
 
 enum-known-image : tie.Need-enum-known-image
 enum-known-image c = search needs

@@ -1,8 +1,9 @@
 -- Why the buffers are large enough: one byte past the limit tells a text that is too long, and no listing is longer than 133 bytes.
-use Prim.Native.Nat.{ℕ, _≤_, _<_}
+use Prim.Native.Nat.{ℕ, zero, suc, _≤_, _<_, min}
+use native.Mathlib.Nat.{zero-min, min-zero, suc-min-suc}
 use native.Mathlib.Omega.{arith}
 use mathlib.Core.Path.{_≡_, refl, sym, ap, _∙_}
-use mathlib.Core.List.{List, _++_}
+use mathlib.Core.List.{List, [], _∷_, _++_}
 use lib.ListN.{length, take, drop, length-take, length-append}
 use lib.Seq.{take-all, take-at, drop-append-seam}
 use Rattle.text.specs.Ascii.{ascii}
@@ -14,10 +15,19 @@ use Rattle.print.specs.Decimal.{digits}
 use Rattle.printing.specs.Printed.{printed}
 use Rattle.listing.specs.Listing.{Listed, listedOf, listed, listing, Lists}
 use Rattle.listing.specs.Sizes.{listing-short, listed-long, listed-short, listed-beginning}
-use Rattle.xbm_list.specs.Program.{Holds, Prints, ListsInput}
+use Rattle.program.specs.Program.{Holds, Prints, ListsInput}
 
 pub taken-size : (n : ℕ) (text : List ℕ) → n ≤ length text → n ≡ length (take n text)
 taken-size n text h = omega (arith, length-take n text)
+
+pub came-size : (n m : ℕ) (text : List ℕ) → m ≡ min n (length text) → m ≡ length (take m text)
+came-size n m text e = taken-size m text (omega (arith, e))
+
+-- no more is taken than there is
+taken-min : (n : ℕ) (l : List ℕ) → take (min n (length l)) l ≡ take n l
+taken-min zero l = ap (λ (m : ℕ). take m l) (zero-min (length l))
+taken-min (suc n) [] = ap (λ (m : ℕ). take m []) (min-zero (suc n))
+taken-min (suc n) (x ∷ l) = ap (λ (m : ℕ). take m (x ∷ l)) (suc-min-suc n (length l)) ∙ ap (λ (t : List ℕ). x ∷ t) (taken-min n l)
 
 -- the promise speaks of some input at every call
 pub holds-own : (text : List ℕ) (n : ℕ) → n ≤ length text → Holds text n (take n text)
@@ -68,5 +78,13 @@ module _ (text : List ℕ) (n : ℕ) (name cells out name′ cells′ : List ℕ
         filled = k .filled ∙ ap (λ (x : Listed). x .cells) same;
       }
 
-  pub lists-input : 65536 < length text → 133 ≤ length out → length name ≡ 256 → length cells ≡ 65536 → ListsInput text n name cells out name′ cells′ out′ r
-  lists-input l h s p = record { prints = prints l h s; symbol = s; picture = p; within = within _ out out′ r (short h) (k .prints) }
+  lists-taken : 65536 < length text → 133 ≤ length out → length name ≡ 256 → length cells ≡ 65536 → ListsInput text n name cells out name′ cells′ out′ r
+  lists-taken l h s p = record { prints = prints l h s; symbol = s; picture = p; within = within _ out out′ r (short h) (k .prints) }
+
+-- what is listed is as much of the buffer as came, or all of it
+module _ (text : List ℕ) (n m : ℕ) (name cells out name′ cells′ : List ℕ) {out′ : List ℕ} {r : ℕ} where
+  pub lists-input : Lists 65536 65536 (take m text) name cells out name′ cells′ out′ r → m ≡ min n (length text)
+      → 65536 < length text → 133 ≤ length out → length name ≡ 256 → length cells ≡ 65536 → ListsInput text n name cells out name′ cells′ out′ r
+  lists-input k e =
+      let a : take m text ≡ take n text = ap (λ (j : ℕ). take j text) e ∙ taken-min n text in
+      lists-taken text n name cells out name′ cells′ (rw (← a) k)

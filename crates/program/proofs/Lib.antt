@@ -1,0 +1,2 @@
+-- What the proofs of `program` share, by module.
+pub mod Laws

@@ -1,0 +1,2 @@
+-- The definitions of `program`, by module.
+pub mod Program

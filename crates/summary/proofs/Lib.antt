@@ -1,0 +1,2 @@
+-- What the proofs of `summary` share, by module.
+pub mod Laws

@@ -1,2 +1,0 @@
--- What the proofs of `xbm_list` share, by module.
-pub mod Laws

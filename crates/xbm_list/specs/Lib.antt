@@ -1,2 +1,0 @@
--- The definitions of `xbm_list`, by module.
-pub mod Program
