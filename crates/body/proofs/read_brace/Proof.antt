@@ -22,7 +22,7 @@ read-fixed-string-requires c κs = search needs
 
 returns : tie.Need-returns
 unfolding brace
-returns c = search (brace·laws, needs)
+returns c = search brace·laws
 
 slice-aggregate-read-fixed-string-2 : tie.Need-slice-aggregate-read-fixed-string-2
 slice-aggregate-read-fixed-string-2 c = search needs
@@ -32,18 +32,18 @@ read-fixed-string-requires-2 c κs = search needs
 
 returns-2 : tie.Need-returns-2
 unfolding brace
-returns-2 c = search (brace·laws, needs)
+returns-2 c = search brace·laws
 
 enum-told : tie.Need-enum-told
 enum-told c = search needs
 
 returns-3 : tie.Need-returns-3
 unfolding brace
-returns-3 c = search (brace·laws, needs)
+returns-3 c = search brace·laws
 
 returns-4 : tie.Need-returns-4
 unfolding brace
-returns-4 c = search (brace·laws, needs)
+returns-4 c = search brace·laws
 
 pub read-brace-spec : {M : Type 1} → statement M
 read-brace-spec =

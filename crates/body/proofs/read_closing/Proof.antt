@@ -22,7 +22,7 @@ then-fixed-requires c κs = search needs
 
 returns : tie.Need-returns
 unfolding closing
-returns c = search (closing·laws, needs) depth 20
+returns c = search closing·laws depth 20
 
 pub read-closing-spec : {M : Type 1} → statement M
 read-closing-spec =

@@ -21,10 +21,10 @@ enum-known-q : tie.Need-enum-known-q
 enum-known-q c = search needs
 
 returns : tie.Need-returns
-returns c = search (item·laws, needs)
+returns c = search item·laws
 
 returns-2 : tie.Need-returns-2
-returns-2 c = search (item·laws, needs)
+returns-2 c = search item·laws
 
 pub read-data-byte-spec : {M : Type 1} → statement M
 read-data-byte-spec =

@@ -14,10 +14,10 @@ enum-told : tie.Need-enum-told
 enum-told c = search needs
 
 returns : tie.Need-returns
-returns c = search (end·laws, needs)
+returns c = search end·laws
 
 returns-2 : tie.Need-returns-2
-returns-2 c = search (end·laws, needs)
+returns-2 c = search end·laws
 
 pub read-end-spec : {M : Type 1} → statement M
 read-end-spec = tie.close (tie.spec take-requires enum-known-next enum-told returns returns-2)

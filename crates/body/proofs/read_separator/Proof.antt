@@ -5,7 +5,7 @@ use Rattle.body.proofs.read_separator.Statement.{statement}
 use Rattle.body.proofs.read_separator.Tie as tie
 
 returns : tie.Need-returns
-returns c = search (separator·laws, needs)
+returns c = search separator·laws
 
 read-optional-whitespace-requires : tie.Need-read-optional-whitespace-requires
 read-optional-whitespace-requires c κs = search needs
@@ -20,13 +20,13 @@ enum-told : tie.Need-enum-told
 enum-told c = search needs
 
 returns-2 : tie.Need-returns-2
-returns-2 c = search (separator·laws, needs)
+returns-2 c = search separator·laws
 
 returns-3 : tie.Need-returns-3
-returns-3 c = search (separator·laws, needs)
+returns-3 c = search separator·laws
 
 returns-4 : tie.Need-returns-4
-returns-4 c = search (separator·laws, needs)
+returns-4 c = search separator·laws
 
 pub read-separator-spec : {M : Type 1} → statement M
 read-separator-spec =

@@ -16,7 +16,7 @@ then-end-requires c κs = search needs
 
 returns : tie.Need-returns
 unfolding trailer tail
-returns c = search (closing·laws, needs) depth 20
+returns c = search closing·laws depth 20
 
 pub read-trailer-spec : {M : Type 1} → statement M
 read-trailer-spec =

@@ -14,10 +14,10 @@ enum-known-before-2 : tie.Need-enum-known-before-2
 enum-known-before-2 c = search needs
 
 returns : tie.Need-returns
-returns c = search (onto·laws, needs)
+returns c = search onto·laws
 
 returns-2 : tie.Need-returns-2
-returns-2 c = search (onto·laws, needs)
+returns-2 c = search onto·laws
 
 pub then-end-spec : {M : Type 1} → statement M
 then-end-spec =

@@ -72,16 +72,16 @@ report-of-requires-4 : tie.Need-report-of-requires-4
 report-of-requires-4 c κs = search needs
 
 returns : tie.Need-returns
-returns c = search (report-byte, number-byte, needs)
+returns c = search (report-byte, number-byte)
 
 returns-2 : tie.Need-returns-2
-returns-2 c = search (report-done, needs)
+returns-2 c = search report-done
 
 returns-3 : tie.Need-returns-3
-returns-3 c = search (report-refused, number-refused, needs)
+returns-3 c = search (report-refused, number-refused)
 
 returns-4 : tie.Need-returns-4
-returns-4 c = search (report-foreign, number-foreign, needs)
+returns-4 c = search (report-foreign, number-foreign)
 
 pub tell-spec : {M : Type 1} → statement M
 tell-spec =

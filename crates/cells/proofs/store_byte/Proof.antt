@@ -5,7 +5,7 @@ use Rattle.cells.proofs.store_byte.Statement.{statement}
 use Rattle.cells.proofs.store_byte.Tie as tie
 
 returns : tie.Need-returns
-returns c = search (storing·laws, needs)
+returns c = search storing·laws
 
 add-across : tie.Need-add-across
 add-across c = search needs
@@ -17,25 +17,25 @@ div-if2 : tie.Need-div-if2
 div-if2 c = search needs
 
 returns-2 : tie.Need-returns-2
-returns-2 c = search (storing·laws, needs)
+returns-2 c = search storing·laws
 
 rem-x : tie.Need-rem-x
 rem-x c = search needs
 
 mul-x : tie.Need-mul-x
-mul-x c = search (storing·laws, needs)
+mul-x c = search storing·laws
 
 sub-left : tie.Need-sub-left
-sub-left c = search (storing·laws, needs)
+sub-left c = search storing·laws
 
 mul-start : tie.Need-mul-start
-mul-start c = search (storing·laws, needs)
+mul-start c = search storing·laws
 
 add-start : tie.Need-add-start
-add-start c = search (storing·laws, needs)
+add-start c = search storing·laws
 
 add-end : tie.Need-add-end
-add-end c = search (storing·laws, needs)
+add-end c = search storing·laws
 
 sub-unpack : tie.Need-sub-unpack
 sub-unpack c = search needs
@@ -44,7 +44,7 @@ part-unpack-start : tie.Need-part-unpack-start
 part-unpack-start c = search needs
 
 part-unpack-end : tie.Need-part-unpack-end
-part-unpack-end c = search (storing·laws, needs)
+part-unpack-end c = search storing·laws
 
 unpack-requires : tie.Need-unpack-requires
 unpack-requires c κs = search needs
@@ -53,10 +53,10 @@ same-length : tie.Need-same-length
 same-length c = search needs
 
 returns-3 : tie.Need-returns-3
-returns-3 c = search (storing·laws, needs)
+returns-3 c = search storing·laws
 
 add-end-2 : tie.Need-add-end-2
-add-end-2 c = search (storing·laws, needs)
+add-end-2 c = search storing·laws
 
 sub-unpack-2 : tie.Need-sub-unpack-2
 sub-unpack-2 c = search needs
@@ -65,7 +65,7 @@ part-unpack-start-2 : tie.Need-part-unpack-start-2
 part-unpack-start-2 c = search needs
 
 part-unpack-end-2 : tie.Need-part-unpack-end-2
-part-unpack-end-2 c = search (storing·laws, needs)
+part-unpack-end-2 c = search storing·laws
 
 unpack-requires-2 : tie.Need-unpack-requires-2
 unpack-requires-2 c κs = search needs
@@ -74,7 +74,7 @@ same-length-2 : tie.Need-same-length-2
 same-length-2 c = search needs
 
 returns-4 : tie.Need-returns-4
-returns-4 c = search (storing·laws, needs)
+returns-4 c = search storing·laws
 
 pub store-byte-spec : {M : Type 1} → statement M
 store-byte-spec =

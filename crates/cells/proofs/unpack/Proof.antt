@@ -13,28 +13,28 @@ abbrev μ-loop : tie.MeasureT-loop
 μ-loop v cells₀ bits₀ i₀ cells bits i = length cells₀ - i
 
 loop-holds : tie.Need-loop-holds Inv-loop μ-loop
-loop-holds c = search (dabbing·laws, needs)
+loop-holds c = search dabbing·laws
 
 least-requires : tie.Need-least-requires Inv-loop μ-loop
-least-requires c κs = search (dabbing·laws, needs)
+least-requires c κs = search dabbing·laws
 
 slice-write-cells : tie.Need-slice-write-cells Inv-loop μ-loop
-slice-write-cells c = search (dabbing·laws, needs)
+slice-write-cells c = search dabbing·laws
 
 add-i : tie.Need-add-i Inv-loop μ-loop
 add-i c = search (dabbing·laws, needs)
 
 loop-less : tie.Need-loop-less Inv-loop μ-loop
-loop-less c = search (dabbing·laws, needs)
+loop-less c = search dabbing·laws
 
 loop-again : tie.Need-loop-again Inv-loop μ-loop
-loop-again c = search (dabbing·laws, needs)
+loop-again c = search dabbing·laws
 
 same-length : tie.Need-same-length Inv-loop μ-loop
-same-length c = search (dabbing·laws, needs)
+same-length c = search dabbing·laws
 
 returns : tie.Need-returns Inv-loop μ-loop
-returns c = search (dabbing·laws, needs)
+returns c = search dabbing·laws
 
 pub unpack-spec : {M : Type 1} → statement M
 unpack-spec =

@@ -8,7 +8,7 @@ is-foreign-requires : tie.Need-is-foreign-requires
 is-foreign-requires c κs = search needs
 
 returns : tie.Need-returns
-returns c = search (step·laws, needs)
+returns c = search step·laws
 
 data-size-requires : tie.Need-data-size-requires
 data-size-requires c κs = search needs
@@ -26,7 +26,7 @@ placed-requires : tie.Need-placed-requires
 placed-requires c κs = search needs
 
 returns-2 : tie.Need-returns-2
-returns-2 c = search (step·laws, needs)
+returns-2 c = search step·laws
 
 enum-known-part : tie.Need-enum-known-part
 enum-known-part c = search needs
@@ -38,7 +38,7 @@ placed-requires-2 : tie.Need-placed-requires-2
 placed-requires-2 c κs = search needs
 
 returns-3 : tie.Need-returns-3
-returns-3 c = search (step·laws, needs)
+returns-3 c = search step·laws
 
 read-trailer-requires : tie.Need-read-trailer-requires
 read-trailer-requires c κs = search needs
@@ -56,10 +56,10 @@ placed-requires-4 : tie.Need-placed-requires-4
 placed-requires-4 c κs = search needs
 
 returns-4 : tie.Need-returns-4
-returns-4 c = search (step·laws, needs)
+returns-4 c = search step·laws
 
 returns-5 : tie.Need-returns-5
-returns-5 c = search (step·laws, needs)
+returns-5 c = search step·laws
 
 pub step-spec : {M : Type 1} → statement M
 step-spec =

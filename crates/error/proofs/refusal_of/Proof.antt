@@ -17,7 +17,7 @@ part-number-requires-2 : tie.Need-part-number-requires-2
 part-number-requires-2 c κs = search needs
 
 add-t8 : tie.Need-add-t8
-add-t8 c = search (refusal·laws, needs)
+add-t8 c = search refusal·laws
 
 enum-told : tie.Need-enum-told
 enum-told c = search needs
@@ -26,10 +26,10 @@ enum-told-2 : tie.Need-enum-told-2
 enum-told-2 c = search needs
 
 returns : tie.Need-returns
-returns c = search (refusal·laws, needs)
+returns c = search refusal·laws
 
 returns-2 : tie.Need-returns-2
-returns-2 c = search (refusal·laws, needs)
+returns-2 c = search refusal·laws
 
 returns-3 : tie.Need-returns-3
 returns-3 c = search needs

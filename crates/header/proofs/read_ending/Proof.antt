@@ -16,11 +16,11 @@ enum-known-q c = search needs
 
 returns : tie.Need-returns
 unfolding endingOf
-returns c = search (shown·laws, needs)
+returns c = search shown·laws
 
 returns-2 : tie.Need-returns-2
 unfolding endingOf
-returns-2 c = search (shown·laws, needs)
+returns-2 c = search shown·laws
 
 pub read-ending-spec : {M : Type 1} → statement M
 read-ending-spec =

@@ -16,10 +16,10 @@ enum-known-n : tie.Need-enum-known-n
 enum-known-n c = search needs
 
 array-share-prefix-digits : tie.Need-array-share-prefix-digits
-array-share-prefix-digits c = search (size·laws, needs)
+array-share-prefix-digits c = search size·laws
 
 slice-aggregate-parse-u32 : tie.Need-slice-aggregate-parse-u32
-slice-aggregate-parse-u32 c = search (size·laws, needs)
+slice-aggregate-parse-u32 c = search size·laws
 
 parse-u32-requires : tie.Need-parse-u32-requires
 parse-u32-requires c κs = search needs
@@ -29,7 +29,7 @@ enum-known-height c = search needs
 
 returns : tie.Need-returns
 unfolding heightOf
-returns c = search (shown·laws, needs)
+returns c = search shown·laws
 
 read-rest-requires : tie.Need-read-rest-requires
 read-rest-requires c κs = search needs
@@ -42,15 +42,15 @@ enum-known-q c = search needs
 
 returns-2 : tie.Need-returns-2
 unfolding heightOf
-returns-2 c = search (shown·laws, needs)
+returns-2 c = search shown·laws
 
 returns-3 : tie.Need-returns-3
 unfolding heightOf
-returns-3 c = search (shown·laws, needs)
+returns-3 c = search shown·laws
 
 returns-4 : tie.Need-returns-4
 unfolding heightOf
-returns-4 c = search (shown·laws, needs)
+returns-4 c = search shown·laws
 
 pub read-height-spec : {M : Type 1} → statement M
 read-height-spec =

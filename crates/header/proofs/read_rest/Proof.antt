@@ -29,25 +29,25 @@ returns c = search (shown·laws, needs)
 
 returns-2 : tie.Need-returns-2
 unfolding restOf
-returns-2 c = search (shown·laws, needs)
+returns-2 c = search shown·laws
 
 read-ending-requires-2 : tie.Need-read-ending-requires-2
 read-ending-requires-2 c κs = search needs
 
 returns-3 : tie.Need-returns-3
 unfolding restOf
-returns-3 c = search (shown·laws, needs)
+returns-3 c = search shown·laws
 
 enum-told : tie.Need-enum-told
 enum-told c = search needs
 
 returns-4 : tie.Need-returns-4
 unfolding restOf
-returns-4 c = search (shown·laws, needs)
+returns-4 c = search shown·laws
 
 returns-5 : tie.Need-returns-5
 unfolding restOf
-returns-5 c = search (shown·laws, needs)
+returns-5 c = search shown·laws
 
 pub read-rest-spec : {M : Type 1} → statement M
 read-rest-spec =

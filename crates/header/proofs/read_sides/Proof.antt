@@ -13,10 +13,10 @@ enum-known-n : tie.Need-enum-known-n
 enum-known-n c = search needs
 
 array-share-prefix-digits : tie.Need-array-share-prefix-digits
-array-share-prefix-digits c = search (size·laws, needs)
+array-share-prefix-digits c = search size·laws
 
 slice-aggregate-parse-u32 : tie.Need-slice-aggregate-parse-u32
-slice-aggregate-parse-u32 c = search (size·laws, needs)
+slice-aggregate-parse-u32 c = search size·laws
 
 parse-u32-requires : tie.Need-parse-u32-requires
 parse-u32-requires c κs = search needs
@@ -26,7 +26,7 @@ enum-known-width c = search needs
 
 returns : tie.Need-returns
 unfolding sidesOf
-returns c = search (shown·laws, needs)
+returns c = search shown·laws
 
 read-height-requires : tie.Need-read-height-requires
 read-height-requires c κs = search needs
@@ -39,15 +39,15 @@ enum-known-q c = search needs
 
 returns-2 : tie.Need-returns-2
 unfolding sidesOf
-returns-2 c = search (shown·laws, needs)
+returns-2 c = search shown·laws
 
 returns-3 : tie.Need-returns-3
 unfolding sidesOf
-returns-3 c = search (shown·laws, needs)
+returns-3 c = search shown·laws
 
 returns-4 : tie.Need-returns-4
 unfolding sidesOf
-returns-4 c = search (shown·laws, needs)
+returns-4 c = search shown·laws
 
 pub read-sides-spec : {M : Type 1} → statement M
 read-sides-spec =

@@ -11,10 +11,10 @@ enum-known-n : tie.Need-enum-known-n
 enum-known-n c = search needs
 
 slice-reshare-prefix-read-sides : tie.Need-slice-reshare-prefix-read-sides
-slice-reshare-prefix-read-sides c = search (header·laws, needs)
+slice-reshare-prefix-read-sides c = search header·laws
 
 slice-aggregate-read-sides : tie.Need-slice-aggregate-read-sides
-slice-aggregate-read-sides c = search (header·laws, needs)
+slice-aggregate-read-sides c = search header·laws
 
 read-sides-requires : tie.Need-read-sides-requires
 read-sides-requires c κs = search needs
@@ -32,19 +32,19 @@ same-length : tie.Need-same-length
 same-length c = search needs
 
 returns : tie.Need-returns
-returns c = search (header·laws, needs)
+returns c = search header·laws
 
 same-length-2 : tie.Need-same-length-2
 same-length-2 c = search needs
 
 returns-2 : tie.Need-returns-2
-returns-2 c = search (header·laws, needs)
+returns-2 c = search header·laws
 
 same-length-3 : tie.Need-same-length-3
 same-length-3 c = search needs
 
 returns-3 : tie.Need-returns-3
-returns-3 c = search (header·laws, needs)
+returns-3 c = search header·laws
 
 pub read-xbm-header-spec : {M : Type 1} → statement M
 read-xbm-header-spec =

@@ -17,7 +17,7 @@ enum-known-q c = search needs
 
 returns : tie.Need-returns
 unfolding hexUnit hexDigits
-returns c = search (pass·laws, one·laws, needs)
+returns c = search (pass·laws, one·laws)
 
 read-hex-digit-requires : tie.Need-read-hex-digit-requires
 read-hex-digit-requires c κs = search needs
@@ -32,10 +32,10 @@ enum-known-lo : tie.Need-enum-known-lo
 enum-known-lo c = search needs
 
 mul-t22 : tie.Need-mul-t22
-mul-t22 c = search (hi-fits, needs)
+mul-t22 c = search hi-fits
 
 add-t23 : tie.Need-add-t23
-add-t23 c = search (byte-fits, needs)
+add-t23 c = search byte-fits
 
 enum-known-q-2 : tie.Need-enum-known-q-2
 enum-known-q-2 c = search needs
@@ -45,15 +45,15 @@ enum-known-q-3 c = search needs
 
 returns-2 : tie.Need-returns-2
 unfolding hexUnit hexDigits
-returns-2 c = search (pass·laws, one·laws, needs)
+returns-2 c = search (pass·laws, one·laws)
 
 returns-3 : tie.Need-returns-3
 unfolding hexUnit hexDigits
-returns-3 c = search (pass·laws, one·laws, needs)
+returns-3 c = search (pass·laws, one·laws)
 
 returns-4 : tie.Need-returns-4
 unfolding hexUnit hexDigits
-returns-4 c = search (pass·laws, one·laws, needs)
+returns-4 c = search (pass·laws, one·laws)
 
 pub read-hex-byte-spec : {M : Type 1} → statement M
 read-hex-byte-spec =

@@ -19,15 +19,15 @@ enum-told c = search needs
 
 returns : tie.Need-returns
 unfolding hexDigit
-returns c = search (digit·laws, needs)
+returns c = search digit·laws
 
 returns-2 : tie.Need-returns-2
 unfolding hexDigit
-returns-2 c = search (digit·laws, needs)
+returns-2 c = search digit·laws
 
 returns-3 : tie.Need-returns-3
 unfolding hexDigit
-returns-3 c = search (digit·laws, needs)
+returns-3 c = search digit·laws
 
 pub read-hex-digit-spec : {M : Type 1} → statement M
 read-hex-digit-spec =

@@ -19,7 +19,7 @@ enum-known-q c = search needs
 
 returns : tie.Need-returns
 unfolding hexStart
-returns c = search (pass·laws, byte·laws, needs)
+returns c = search (pass·laws, byte·laws)
 
 take-requires : tie.Need-take-requires
 take-requires c κs = search needs
@@ -35,15 +35,15 @@ enum-told c = search needs
 
 returns-2 : tie.Need-returns-2
 unfolding hexStart
-returns-2 c = search (pass·laws, byte·laws, needs)
+returns-2 c = search (pass·laws, byte·laws)
 
 returns-3 : tie.Need-returns-3
 unfolding hexStart
-returns-3 c = search (pass·laws, byte·laws, needs)
+returns-3 c = search (pass·laws, byte·laws)
 
 returns-4 : tie.Need-returns-4
 unfolding hexStart
-returns-4 c = search (pass·laws, byte·laws, needs)
+returns-4 c = search (pass·laws, byte·laws)
 
 pub read-hex-start-spec : {M : Type 1} → statement M
 read-hex-start-spec =

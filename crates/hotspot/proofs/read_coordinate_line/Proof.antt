@@ -13,10 +13,10 @@ enum-known-n : tie.Need-enum-known-n
 enum-known-n c = search needs
 
 array-share-prefix-digits : tie.Need-array-share-prefix-digits
-array-share-prefix-digits c = search (size·laws, needs)
+array-share-prefix-digits c = search size·laws
 
 slice-aggregate-parse-i32 : tie.Need-slice-aggregate-parse-i32
-slice-aggregate-parse-i32 c = search (size·laws, needs)
+slice-aggregate-parse-i32 c = search size·laws
 
 parse-i32-requires : tie.Need-parse-i32-requires
 parse-i32-requires c κs = search needs
@@ -36,11 +36,11 @@ returns c = search (hotspot·laws, needs)
 
 returns-2 : tie.Need-returns-2
 unfolding coordinateLine
-returns-2 c = search (hotspot·laws, needs)
+returns-2 c = search hotspot·laws
 
 returns-3 : tie.Need-returns-3
 unfolding coordinateLine
-returns-3 c = search (hotspot·laws, needs)
+returns-3 c = search hotspot·laws
 
 pub read-coordinate-line-spec : {M : Type 1} → statement M
 read-coordinate-line-spec =

@@ -35,11 +35,11 @@ returns c = search (hotspot·laws, needs)
 
 returns-2 : tie.Need-returns-2
 unfolding spot
-returns-2 c = search (hotspot·laws, needs)
+returns-2 c = search hotspot·laws
 
 returns-3 : tie.Need-returns-3
 unfolding spot
-returns-3 c = search (hotspot·laws, needs)
+returns-3 c = search hotspot·laws
 
 pub read-hotspot-spec : {M : Type 1} → statement M
 read-hotspot-spec =

@@ -17,13 +17,13 @@ enum-told : tie.Need-enum-told
 enum-told c = search needs
 
 returns : tie.Need-returns
-returns c = search (limited·laws, needs)
+returns c = search limited·laws
 
 returns-2 : tie.Need-returns-2
-returns-2 c = search (limited·laws, needs)
+returns-2 c = search limited·laws
 
 returns-3 : tie.Need-returns-3
-returns-3 c = search (limited·laws, needs)
+returns-3 c = search limited·laws
 
 pub limited-of-spec : {M : Type 1} → statement M
 limited-of-spec =

@@ -23,13 +23,13 @@ same-length-2 : tie.Need-same-length-2
 same-length-2 c = search needs
 
 returns : tie.Need-returns
-returns c = search (image·laws, needs)
+returns c = search image·laws
 
 same-length-3 : tie.Need-same-length-3
 same-length-3 c = search needs
 
 returns-2 : tie.Need-returns-2
-returns-2 c = search (image·laws, needs)
+returns-2 c = search image·laws
 
 pub read-image-spec : {M : Type 1} → statement M
 read-image-spec =

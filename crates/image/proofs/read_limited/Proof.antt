@@ -26,13 +26,13 @@ same-length-2 : tie.Need-same-length-2
 same-length-2 c = search needs
 
 returns : tie.Need-returns
-returns c = search (within·laws, needs)
+returns c = search within·laws
 
 same-length-3 : tie.Need-same-length-3
 same-length-3 c = search needs
 
 returns-2 : tie.Need-returns-2
-returns-2 c = search (within·laws, needs)
+returns-2 c = search within·laws
 
 pub read-limited-spec : {M : Type 1} → statement M
 read-limited-spec =

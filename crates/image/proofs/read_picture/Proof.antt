@@ -20,19 +20,19 @@ same-length : tie.Need-same-length
 same-length c = search needs
 
 returns : tie.Need-returns
-returns c = search (pictured·laws, needs)
+returns c = search pictured·laws
 
 same-length-2 : tie.Need-same-length-2
 same-length-2 c = search needs
 
 returns-2 : tie.Need-returns-2
-returns-2 c = search (pictured·laws, needs)
+returns-2 c = search pictured·laws
 
 same-length-3 : tie.Need-same-length-3
 same-length-3 c = search needs
 
 returns-3 : tie.Need-returns-3
-returns-3 c = search (pictured·laws, needs)
+returns-3 c = search pictured·laws
 
 pub read-picture-spec : {M : Type 1} → statement M
 read-picture-spec =

@@ -8,7 +8,7 @@ cell-count-requires : tie.Need-cell-count-requires
 cell-count-requires c κs = search needs
 
 returns : tie.Need-returns
-returns c = search (bounded·laws, needs)
+returns c = search bounded·laws
 
 at-most-requires : tie.Need-at-most-requires
 at-most-requires c κs = search needs
@@ -17,7 +17,7 @@ slice-relend-prefix-read-picture : tie.Need-slice-relend-prefix-read-picture
 slice-relend-prefix-read-picture c = search needs
 
 slice-aggregate-read-picture : tie.Need-slice-aggregate-read-picture
-slice-aggregate-read-picture c = search (bounded·laws, needs)
+slice-aggregate-read-picture c = search bounded·laws
 
 read-picture-requires : tie.Need-read-picture-requires
 read-picture-requires c κs = search needs
@@ -29,7 +29,7 @@ same-length : tie.Need-same-length
 same-length c = search needs
 
 returns-2 : tie.Need-returns-2
-returns-2 c = search (bounded·laws, needs)
+returns-2 c = search bounded·laws
 
 pub read-within-spec : {M : Type 1} → statement M
 read-within-spec =

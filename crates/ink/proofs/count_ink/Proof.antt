@@ -13,16 +13,16 @@ abbrev μ-loop : tie.MeasureT-loop
 μ-loop cells n₀ i₀ n i = length cells - i
 
 loop-holds : tie.Need-loop-holds Inv-loop μ-loop
-loop-holds c = search (counting·laws, needs)
+loop-holds c = search counting·laws
 
 shared-slice-read-ink-at : tie.Need-shared-slice-read-ink-at Inv-loop μ-loop
-shared-slice-read-ink-at c = search (counting·laws, needs)
+shared-slice-read-ink-at c = search counting·laws
 
 ink-at-requires : tie.Need-ink-at-requires Inv-loop μ-loop
-ink-at-requires c κs = search (counting·laws, needs)
+ink-at-requires c κs = search counting·laws
 
 add-n : tie.Need-add-n Inv-loop μ-loop
-add-n c = search (counting·laws, needs)
+add-n c = search counting·laws
 
 add-i : tie.Need-add-i Inv-loop μ-loop
 add-i c = search (counting·laws, needs)
@@ -31,10 +31,10 @@ loop-less : tie.Need-loop-less Inv-loop μ-loop
 loop-less c = search (counting·laws, needs)
 
 loop-again : tie.Need-loop-again Inv-loop μ-loop
-loop-again c = search (counting·laws, needs)
+loop-again c = search counting·laws
 
 returns : tie.Need-returns Inv-loop μ-loop
-returns c = search (counting·laws, needs)
+returns c = search counting·laws
 
 pub count-ink-spec : {M : Type 1} → statement M
 count-ink-spec =

@@ -11,13 +11,13 @@ at-most-requires : tie.Need-at-most-requires
 at-most-requires c κs = search needs
 
 slice-aggregate-count-ink : tie.Need-slice-aggregate-count-ink
-slice-aggregate-count-ink c = search (size-fits, ink-first, needs)
+slice-aggregate-count-ink c = search (size-fits, ink-first)
 
 count-ink-requires : tie.Need-count-ink-requires
 count-ink-requires c κs = search needs
 
 returns : tie.Need-returns
-returns c = search (size-fits, ink-first, needs)
+returns c = search (size-fits, ink-first)
 
 pub picture-ink-spec : {M : Type 1} → statement M
 picture-ink-spec =

@@ -21,7 +21,7 @@ same-length : tie.Need-same-length
 same-length c = search needs
 
 returns : tie.Need-returns
-returns c = search (input·laws, needs)
+returns c = search input·laws
 
 count-requires : tie.Need-count-requires
 count-requires c κs = search needs

@@ -5,7 +5,7 @@ use Rattle.integer.proofs.parse_i32.Statement.{statement}
 use Rattle.integer.proofs.parse_i32.Tie as tie
 
 returns : tie.Need-returns
-returns c = search (signed-none, needs)
+returns c = search signed-none
 
 shared-slice-read-if2 : tie.Need-shared-slice-read-if2
 shared-slice-read-if2 c = search needs
@@ -44,16 +44,16 @@ enum-told-2 : tie.Need-enum-told-2
 enum-told-2 c = search needs
 
 returns-2 : tie.Need-returns-2
-returns-2 c = search (signed-minus, needs)
+returns-2 c = search signed-minus
 
 returns-3 : tie.Need-returns-3
-returns-3 c = search (signed-minus-bad, needs)
+returns-3 c = search signed-minus-bad
 
 returns-4 : tie.Need-returns-4
-returns-4 c = search (signed-plain, needs)
+returns-4 c = search signed-plain
 
 returns-5 : tie.Need-returns-5
-returns-5 c = search (signed-plain-bad, needs)
+returns-5 c = search signed-plain-bad
 
 pub parse-i32-spec : {M : Type 1} → statement M
 parse-i32-spec =

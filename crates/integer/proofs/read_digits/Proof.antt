@@ -23,10 +23,10 @@ shared-slice-read-d : tie.Need-shared-slice-read-d Inv-loop μ-loop
 shared-slice-read-d c = search needs
 
 returns : tie.Need-returns Inv-loop μ-loop
-returns c = search (digits-low, needs)
+returns c = search digits-low
 
 returns-2 : tie.Need-returns-2 Inv-loop μ-loop
-returns-2 c = search (digits-high, needs)
+returns-2 c = search digits-high
 
 mul-y : tie.Need-mul-y Inv-loop μ-loop
 mul-y c = search needs
@@ -38,7 +38,7 @@ add-y : tie.Need-add-y Inv-loop μ-loop
 add-y c = search needs
 
 returns-3 : tie.Need-returns-3 Inv-loop μ-loop
-returns-3 c = search (digits-large, needs)
+returns-3 c = search digits-large
 
 add-i : tie.Need-add-i Inv-loop μ-loop
 add-i c = search needs
@@ -47,13 +47,13 @@ loop-less : tie.Need-loop-less Inv-loop μ-loop
 loop-less c = search needs
 
 loop-again : tie.Need-loop-again Inv-loop μ-loop
-loop-again c = (omega arith, omega arith, search (digits-again, needs))
+loop-again c = (omega arith, omega arith, search digits-again)
 
 cast-t12 : tie.Need-cast-t12 Inv-loop μ-loop
 cast-t12 c = search needs
 
 returns-4 : tie.Need-returns-4 Inv-loop μ-loop
-returns-4 c = search (digits-done, needs)
+returns-4 c = search digits-done
 
 pub read-digits-spec : {M : Type 1} → statement M
 read-digits-spec =

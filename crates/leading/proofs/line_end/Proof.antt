@@ -21,7 +21,7 @@ shared-slice-read-if1 : tie.Need-shared-slice-read-if1 Inv-loop μ-loop
 shared-slice-read-if1 c = search needs
 
 returns : tie.Need-returns Inv-loop μ-loop
-returns c = search (end·laws, needs)
+returns c = search end·laws
 
 add-i : tie.Need-add-i Inv-loop μ-loop
 add-i c = search needs
@@ -30,10 +30,10 @@ loop-less : tie.Need-loop-less Inv-loop μ-loop
 loop-less c = search needs
 
 loop-again : tie.Need-loop-again Inv-loop μ-loop
-loop-again c = search (end·laws, needs)
+loop-again c = search end·laws
 
 returns-2 : tie.Need-returns-2 Inv-loop μ-loop
-returns-2 c = search (end·laws, needs)
+returns-2 c = search end·laws
 
 pub line-end-spec : {M : Type 1} → statement M
 line-end-spec =

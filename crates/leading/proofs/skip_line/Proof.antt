@@ -17,16 +17,16 @@ past-line-requires : tie.Need-past-line-requires
 past-line-requires c κs = search needs
 
 returns : tie.Need-returns
-returns c = search (line·laws, needs)
+returns c = search line·laws
 
 along-requires : tie.Need-along-requires
 along-requires c κs = search needs
 
 returns-2 : tie.Need-returns-2
-returns-2 c = search (line·laws, needs)
+returns-2 c = search line·laws
 
 returns-3 : tie.Need-returns-3
-returns-3 c = search (line·laws, needs)
+returns-3 c = search line·laws
 
 pub skip-line-spec : {M : Type 1} → statement M
 skip-line-spec =

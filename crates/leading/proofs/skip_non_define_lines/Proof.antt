@@ -25,13 +25,13 @@ enum-known-b : tie.Need-enum-known-b Inv-loop μ-loop
 enum-known-b c = search needs
 
 returns : tie.Need-returns Inv-loop μ-loop
-returns c = search (lines·laws, needs)
+returns c = search lines·laws
 
 enum-told : tie.Need-enum-told Inv-loop μ-loop
 enum-told c = search needs
 
 returns-2 : tie.Need-returns-2 Inv-loop μ-loop
-returns-2 c = search (lines·laws, needs)
+returns-2 c = search lines·laws
 
 skip-line-requires : tie.Need-skip-line-requires Inv-loop μ-loop
 skip-line-requires c κs = search needs
@@ -40,16 +40,16 @@ enum-known-next : tie.Need-enum-known-next Inv-loop μ-loop
 enum-known-next c = search needs
 
 loop-less : tie.Need-loop-less Inv-loop μ-loop
-loop-less c = search (lines·laws, needs)
+loop-less c = search lines·laws
 
 loop-again : tie.Need-loop-again Inv-loop μ-loop
-loop-again c = search (lines·laws, needs)
+loop-again c = search lines·laws
 
 enum-known-q : tie.Need-enum-known-q Inv-loop μ-loop
 enum-known-q c = search needs
 
 returns-3 : tie.Need-returns-3 Inv-loop μ-loop
-returns-3 c = search (lines·laws, needs)
+returns-3 c = search lines·laws
 
 pub skip-non-define-lines-spec : {M : Type 1} → statement M
 skip-non-define-lines-spec =

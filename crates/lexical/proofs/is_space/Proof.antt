@@ -8,13 +8,13 @@ is-loose-requires : tie.Need-is-loose-requires
 is-loose-requires c κs = search needs
 
 returns : tie.Need-returns
-returns c = search (space·laws, needs)
+returns c = search space·laws
 
 is-blank-requires : tie.Need-is-blank-requires
 is-blank-requires c κs = search needs
 
 returns-2 : tie.Need-returns-2
-returns-2 c = search (space·laws, needs)
+returns-2 c = search space·laws
 
 pub is-space-spec : {M : Type 1} → statement M
 is-space-spec = tie.close (tie.spec is-loose-requires returns is-blank-requires returns-2)

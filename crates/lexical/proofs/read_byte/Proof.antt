@@ -14,10 +14,10 @@ enum-told : tie.Need-enum-told
 enum-told c = search needs
 
 returns : tie.Need-returns
-returns c = search (any·laws, needs)
+returns c = search any·laws
 
 returns-2 : tie.Need-returns-2
-returns-2 c = search (any·laws, needs)
+returns-2 c = search any·laws
 
 pub read-byte-spec : {M : Type 1} → statement M
 read-byte-spec = tie.close (tie.spec take-requires enum-known-b enum-told returns returns-2)

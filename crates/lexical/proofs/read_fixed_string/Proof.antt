@@ -29,13 +29,13 @@ shared-slice-read-if1 : tie.Need-shared-slice-read-if1 Inv-loop μ-loop
 shared-slice-read-if1 c = search needs
 
 returns : tie.Need-returns Inv-loop μ-loop
-returns c = search (fixed·laws, needs)
+returns c = search fixed·laws
 
 enum-told : tie.Need-enum-told Inv-loop μ-loop
 enum-told c = search needs
 
 returns-2 : tie.Need-returns-2 Inv-loop μ-loop
-returns-2 c = search (fixed·laws, needs)
+returns-2 c = search fixed·laws
 
 add-i : tie.Need-add-i Inv-loop μ-loop
 add-i c = search needs
@@ -44,10 +44,10 @@ loop-less : tie.Need-loop-less Inv-loop μ-loop
 loop-less c = search needs
 
 loop-again : tie.Need-loop-again Inv-loop μ-loop
-loop-again c = (omega arith, search (fixed·laws, needs))
+loop-again c = (omega arith, search fixed·laws)
 
 returns-3 : tie.Need-returns-3 Inv-loop μ-loop
-returns-3 c = search (fixed·laws, needs)
+returns-3 c = search fixed·laws
 
 pub read-fixed-string-spec : {M : Type 1} → statement M
 read-fixed-string-spec =

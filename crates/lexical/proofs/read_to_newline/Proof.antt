@@ -19,15 +19,15 @@ enum-told c = search needs
 
 returns : tie.Need-returns
 unfolding lineEnd
-returns c = search (byte·laws, needs)
+returns c = search byte·laws
 
 returns-2 : tie.Need-returns-2
 unfolding lineEnd
-returns-2 c = search (byte·laws, needs)
+returns-2 c = search byte·laws
 
 returns-3 : tie.Need-returns-3
 unfolding lineEnd
-returns-3 c = search (byte·laws, needs)
+returns-3 c = search byte·laws
 
 pub read-to-newline-spec : {M : Type 1} → statement M
 read-to-newline-spec =

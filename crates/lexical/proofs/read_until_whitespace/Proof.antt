@@ -31,13 +31,13 @@ same-length : tie.Need-same-length Inv-loop μ-loop
 same-length c = search needs
 
 returns : tie.Need-returns Inv-loop μ-loop
-returns c = search (storing·laws, needs)
+returns c = search storing·laws
 
 same-length-2 : tie.Need-same-length-2 Inv-loop μ-loop
 same-length-2 c = search needs
 
 returns-2 : tie.Need-returns-2 Inv-loop μ-loop
-returns-2 c = search (storing·laws, needs)
+returns-2 c = search storing·laws
 
 slice-write-buf : tie.Need-slice-write-buf Inv-loop μ-loop
 slice-write-buf c = search needs
@@ -46,10 +46,10 @@ add-len : tie.Need-add-len Inv-loop μ-loop
 add-len c = search needs
 
 loop-less : tie.Need-loop-less Inv-loop μ-loop
-loop-less c = search (next-less, needs)
+loop-less c = search next-less
 
 loop-again : tie.Need-loop-again Inv-loop μ-loop
-loop-again c = search (storing·laws, needs)
+loop-again c = search storing·laws
 
 enum-told : tie.Need-enum-told Inv-loop μ-loop
 enum-told c = search needs
@@ -58,7 +58,7 @@ same-length-3 : tie.Need-same-length-3 Inv-loop μ-loop
 same-length-3 c = search needs
 
 returns-3 : tie.Need-returns-3 Inv-loop μ-loop
-returns-3 c = search (storing·laws, needs)
+returns-3 c = search storing·laws
 
 pub read-until-whitespace-spec : {M : Type 1} → statement M
 read-until-whitespace-spec =

@@ -22,15 +22,15 @@ enum-told c = search needs
 
 returns : tie.Need-returns
 unfolding gap
-returns c = search (byte·laws, needs)
+returns c = search byte·laws
 
 returns-2 : tie.Need-returns-2
 unfolding gap
-returns-2 c = search (byte·laws, needs)
+returns-2 c = search byte·laws
 
 returns-3 : tie.Need-returns-3
 unfolding gap
-returns-3 c = search (byte·laws, needs)
+returns-3 c = search byte·laws
 
 pub read-whitespace-gap-spec : {M : Type 1} → statement M
 read-whitespace-gap-spec =

@@ -27,19 +27,19 @@ is-space-requires : tie.Need-is-space-requires Inv-loop μ-loop
 is-space-requires c κs = search needs
 
 loop-less : tie.Need-loop-less Inv-loop μ-loop
-loop-less c = search (skip·laws, needs)
+loop-less c = search skip·laws
 
 loop-again : tie.Need-loop-again Inv-loop μ-loop
-loop-again c = search (skip·laws, needs)
+loop-again c = search skip·laws
 
 returns : tie.Need-returns Inv-loop μ-loop
-returns c = search (skip·laws, needs)
+returns c = search skip·laws
 
 enum-told : tie.Need-enum-told Inv-loop μ-loop
 enum-told c = search needs
 
 returns-2 : tie.Need-returns-2 Inv-loop μ-loop
-returns-2 c = search (skip·laws, needs)
+returns-2 c = search skip·laws
 
 pub skip-space-spec : {M : Type 1} → statement M
 skip-space-spec =

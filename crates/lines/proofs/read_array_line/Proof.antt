@@ -49,7 +49,7 @@ then-fixed-requires-4 c κs = search needs
 
 returns : tie.Need-returns
 unfolding arrayLine
-returns c = search (row·laws, needs) depth 24
+returns c = search row·laws depth 24
 
 pub read-array-line-spec : {M : Type 1} → statement M
 read-array-line-spec =

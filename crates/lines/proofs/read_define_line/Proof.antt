@@ -17,10 +17,10 @@ enum-known-q : tie.Need-enum-known-q
 enum-known-q c = search needs
 
 returns : tie.Need-returns
-returns c = search (define·laws, needs)
+returns c = search define·laws
 
 returns-2 : tie.Need-returns-2
-returns-2 c = search (define·laws, needs)
+returns-2 c = search define·laws
 
 pub read-define-line-spec : {M : Type 1} → statement M
 read-define-line-spec =

@@ -20,7 +20,7 @@ read-fixed-string-requires c κs = search needs
 
 returns : tie.Need-returns
 unfolding element
-returns c = search (fork·laws, row·laws, needs)
+returns c = search (fork·laws, row·laws)
 
 slice-aggregate-read-fixed-string-2 : tie.Need-slice-aggregate-read-fixed-string-2
 slice-aggregate-read-fixed-string-2 c = search needs
@@ -39,18 +39,18 @@ then-fixed-requires c κs = search needs
 
 returns-2 : tie.Need-returns-2
 unfolding element
-returns-2 c = search (fork·laws, row·laws, needs)
+returns-2 c = search (fork·laws, row·laws)
 
 enum-told : tie.Need-enum-told
 enum-told c = search needs
 
 returns-3 : tie.Need-returns-3
 unfolding element
-returns-3 c = search (fork·laws, row·laws, needs)
+returns-3 c = search (fork·laws, row·laws)
 
 returns-4 : tie.Need-returns-4
 unfolding element
-returns-4 c = search (fork·laws, row·laws, needs)
+returns-4 c = search (fork·laws, row·laws)
 
 pub read-element-spec : {M : Type 1} → statement M
 read-element-spec =

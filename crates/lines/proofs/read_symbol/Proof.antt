@@ -22,7 +22,7 @@ then-fixed-requires-2 c κs = search needs
 
 returns : tie.Need-returns
 unfolding symbol
-returns c = search (row·laws, needs)
+returns c = search row·laws
 
 pub read-symbol-spec : {M : Type 1} → statement M
 read-symbol-spec =

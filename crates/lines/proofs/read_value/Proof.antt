@@ -35,7 +35,7 @@ enum-known-q-3 : tie.Need-enum-known-q-3
 enum-known-q-3 c = search needs
 
 returns-2 : tie.Need-returns-2
-returns-2 c = search (value·laws, needs)
+returns-2 c = search value·laws
 
 returns-3 : tie.Need-returns-3
 returns-3 c = search (value·laws, needs)

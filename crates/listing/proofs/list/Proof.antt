@@ -20,7 +20,7 @@ same-length-3 : tie.Need-same-length-3
 same-length-3 c = search needs
 
 returns : tie.Need-returns
-returns c = search (lists, needs)
+returns c = search lists
 
 pub list-spec : {M : Type 1} → statement M
 list-spec =

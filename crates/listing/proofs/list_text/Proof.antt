@@ -5,7 +5,7 @@ use Rattle.listing.proofs.list_text.Statement.{statement}
 use Rattle.listing.proofs.list_text.Tie as tie
 
 returns : tie.Need-returns
-returns c = search (answered·laws, needs)
+returns c = search answered·laws
 
 read-limited-requires : tie.Need-read-limited-requires
 read-limited-requires c κs = search needs
@@ -26,7 +26,7 @@ same-length-2 : tie.Need-same-length-2
 same-length-2 c = search needs
 
 returns-2 : tie.Need-returns-2
-returns-2 c = search (answered·laws, needs)
+returns-2 c = search answered·laws
 
 same-length-3 : tie.Need-same-length-3
 same-length-3 c = search needs
@@ -35,7 +35,7 @@ same-length-4 : tie.Need-same-length-4
 same-length-4 c = search needs
 
 returns-3 : tie.Need-returns-3
-returns-3 c = search (answered·laws, needs)
+returns-3 c = search answered·laws
 
 pub list-text-spec : {M : Type 1} → statement M
 list-text-spec =

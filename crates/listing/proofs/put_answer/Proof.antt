@@ -20,13 +20,13 @@ same-length : tie.Need-same-length
 same-length c = search needs
 
 returns : tie.Need-returns
-returns c = search (text·laws, needs)
+returns c = search text·laws
 
 same-length-2 : tie.Need-same-length-2
 same-length-2 c = search needs
 
 returns-2 : tie.Need-returns-2
-returns-2 c = search (text·laws, needs)
+returns-2 c = search text·laws
 
 pub put-answer-spec : {M : Type 1} → statement M
 put-answer-spec =

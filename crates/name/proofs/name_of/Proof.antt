@@ -8,10 +8,10 @@ within-requires : tie.Need-within-requires
 within-requires c κs = search needs
 
 slice-aggregate-result : tie.Need-slice-aggregate-result
-slice-aggregate-result c = search (name·laws, needs)
+slice-aggregate-result c = search name·laws
 
 returns : tie.Need-returns
-returns c = search (name·laws, needs)
+returns c = search name·laws
 
 pub name-of-spec : {M : Type 1} → statement M
 name-of-spec = tie.close (tie.spec within-requires slice-aggregate-result returns)

@@ -17,7 +17,7 @@ part-result-end : tie.Need-part-result-end
 part-result-end c = search needs
 
 returns : tie.Need-returns
-returns c = search (name·laws, needs)
+returns c = search name·laws
 
 pub rest-of-spec : {M : Type 1} → statement M
 rest-of-spec =

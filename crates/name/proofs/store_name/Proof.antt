@@ -11,7 +11,7 @@ same-length : tie.Need-same-length
 same-length c = search needs
 
 returns : tie.Need-returns
-returns c = search (name·laws, needs)
+returns c = search name·laws
 
 pub store-name-spec : {M : Type 1} → statement M
 store-name-spec = tie.close (tie.spec read-xbm-header-requires same-length returns)

@@ -44,7 +44,7 @@ put-decimal-put-byte-requires : (t : ℕ) → put-decimal-lts.Need-put-byte-requ
   put-decimal-below t,
   put-decimal.Post,
 ) (put-decimal-at t) put-decimal.Post
-put-decimal-put-byte-requires t c κs = search (digit·laws, needs)
+put-decimal-put-byte-requires t c κs = search digit·laws
 
 put-decimal-same-length : (t : ℕ) → put-decimal-lts.Need-same-length (
   put-byte-reads.Asked,
@@ -52,7 +52,7 @@ put-decimal-same-length : (t : ℕ) → put-decimal-lts.Need-same-length (
   put-decimal-below t,
   put-decimal.Post,
 ) (put-decimal-at t) put-decimal.Post
-put-decimal-same-length t c = search (digit·laws, needs)
+put-decimal-same-length t c = search digit·laws
 
 put-decimal-returns : (t : ℕ) → put-decimal-lts.Need-returns (
   put-byte-reads.Asked,
@@ -60,7 +60,7 @@ put-decimal-returns : (t : ℕ) → put-decimal-lts.Need-returns (
   put-decimal-below t,
   put-decimal.Post,
 ) (put-decimal-at t) put-decimal.Post
-put-decimal-returns t c = search (digit·laws, needs)
+put-decimal-returns t c = search digit·laws
 
 put-decimal-put-decimal-requires : (t : ℕ) → put-decimal-lts.Need-put-decimal-requires (
   put-byte-reads.Asked,
@@ -92,7 +92,7 @@ put-decimal-put-byte-requires-2 : (t : ℕ) → put-decimal-lts.Need-put-byte-re
   put-decimal-below t,
   put-decimal.Post,
 ) (put-decimal-at t) put-decimal.Post
-put-decimal-put-byte-requires-2 t c κs = search (digit·laws, needs)
+put-decimal-put-byte-requires-2 t c κs = search digit·laws
 
 put-decimal-same-length-2 : (t : ℕ) → put-decimal-lts.Need-same-length-2 (
   put-byte-reads.Asked,
@@ -100,7 +100,7 @@ put-decimal-same-length-2 : (t : ℕ) → put-decimal-lts.Need-same-length-2 (
   put-decimal-below t,
   put-decimal.Post,
 ) (put-decimal-at t) put-decimal.Post
-put-decimal-same-length-2 t c = search (digit·laws, needs)
+put-decimal-same-length-2 t c = search digit·laws
 
 put-decimal-returns-2 : (t : ℕ) → put-decimal-lts.Need-returns-2 (
   put-byte-reads.Asked,
@@ -108,7 +108,7 @@ put-decimal-returns-2 : (t : ℕ) → put-decimal-lts.Need-returns-2 (
   put-decimal-below t,
   put-decimal.Post,
 ) (put-decimal-at t) put-decimal.Post
-put-decimal-returns-2 t c = search (digit·laws, needs)
+put-decimal-returns-2 t c = search digit·laws
 
 pub +put-decimal-spec : {M : Type 1} → statement M
 +put-decimal-spec = close μ-put-decimal λ t. put-decimal-lts.spec (

@@ -14,10 +14,10 @@ same-length : tie.Need-same-length
 same-length c = search needs
 
 returns : tie.Need-returns
-returns c = search (put·laws, needs)
+returns c = search put·laws
 
 returns-2 : tie.Need-returns-2
-returns-2 c = search (put·laws, needs)
+returns-2 c = search put·laws
 
 pub put-byte-spec : {M : Type 1} → statement M
 put-byte-spec = tie.close (tie.spec slice-write-out add-result same-length returns returns-2)

@@ -13,13 +13,13 @@ abbrev μ-loop : tie.MeasureT-loop
 μ-loop out₀ at s next₀ i₀ out next i = length s - i
 
 loop-holds : tie.Need-loop-holds Inv-loop μ-loop
-loop-holds c = search (putting·laws, needs)
+loop-holds c = search putting·laws
 
 shared-slice-read-put-byte : tie.Need-shared-slice-read-put-byte Inv-loop μ-loop
-shared-slice-read-put-byte c = search (putting·laws, needs)
+shared-slice-read-put-byte c = search putting·laws
 
 put-byte-requires : tie.Need-put-byte-requires Inv-loop μ-loop
-put-byte-requires c κs = search (putting·laws, needs)
+put-byte-requires c κs = search putting·laws
 
 add-i : tie.Need-add-i Inv-loop μ-loop
 add-i c = search (putting·laws, needs)
@@ -28,13 +28,13 @@ loop-less : tie.Need-loop-less Inv-loop μ-loop
 loop-less c = search (putting·laws, needs)
 
 loop-again : tie.Need-loop-again Inv-loop μ-loop
-loop-again c = search (putting·laws, needs)
+loop-again c = search putting·laws
 
 same-length : tie.Need-same-length Inv-loop μ-loop
-same-length c = search (putting·laws, needs)
+same-length c = search putting·laws
 
 returns : tie.Need-returns Inv-loop μ-loop
-returns c = search (putting·laws, needs)
+returns c = search putting·laws
 
 pub put-bytes-spec : {M : Type 1} → statement M
 put-bytes-spec =

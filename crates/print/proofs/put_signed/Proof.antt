@@ -8,10 +8,10 @@ put-byte-requires : tie.Need-put-byte-requires
 put-byte-requires c κs = search needs
 
 cast-put-decimal : tie.Need-cast-put-decimal
-cast-put-decimal c = search (signed·laws, needs)
+cast-put-decimal c = search signed·laws
 
 sub-put-decimal : tie.Need-sub-put-decimal
-sub-put-decimal c = search (signed·laws, needs)
+sub-put-decimal c = search signed·laws
 
 cast-put-decimal-2 : tie.Need-cast-put-decimal-2
 cast-put-decimal-2 c = magnitude-fits _ (c .before .before .before .before .before .before .before .fits .z) (c .before .before .before .before .before .if1 .taken)
@@ -23,7 +23,7 @@ same-length : tie.Need-same-length
 same-length c = search needs
 
 returns : tie.Need-returns
-returns c = search (signed·laws, needs)
+returns c = search signed·laws
 
 cast-put-decimal-3 : tie.Need-cast-put-decimal-3
 cast-put-decimal-3 c = plain-fits _ (c .before .before .before .fits .z) (c .before .if1 .left)
@@ -35,7 +35,7 @@ same-length-2 : tie.Need-same-length-2
 same-length-2 c = search needs
 
 returns-2 : tie.Need-returns-2
-returns-2 c = search (signed·laws, needs)
+returns-2 c = search signed·laws
 
 pub put-signed-spec : {M : Type 1} → statement M
 put-signed-spec =

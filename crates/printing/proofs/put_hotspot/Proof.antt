@@ -23,7 +23,7 @@ same-length : tie.Need-same-length
 same-length c = search needs
 
 returns : tie.Need-returns
-returns c = search (text·laws, needs)
+returns c = search text·laws
 
 same-length-2 : tie.Need-same-length-2
 same-length-2 c = search needs

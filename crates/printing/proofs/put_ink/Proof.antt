@@ -20,7 +20,7 @@ same-length : tie.Need-same-length
 same-length c = search needs
 
 returns : tie.Need-returns
-returns c = search (text·laws, needs)
+returns c = search text·laws
 
 pub put-ink-spec : {M : Type 1} → statement M
 put-ink-spec =

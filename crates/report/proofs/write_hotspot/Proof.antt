@@ -11,7 +11,7 @@ enum-known-hotspot : tie.Need-enum-known-hotspot
 enum-known-hotspot c = search needs
 
 returns : tie.Need-returns
-returns c = search (written·laws, needs)
+returns c = search written·laws
 
 returns-2 : tie.Need-returns-2
 returns-2 c = search (written·laws, needs)

@@ -14,7 +14,7 @@ flag-requires : tie.Need-flag-requires
 flag-requires c κs = search needs
 
 returns : tie.Need-returns
-returns c = search (written·laws, needs)
+returns c = search written·laws
 
 pub write-report-spec : {M : Type 1} → statement M
 write-report-spec = tie.close (tie.spec cast-width cast-height flag-requires returns)

@@ -8,7 +8,7 @@ element-copy-out-result : tie.Need-element-copy-out-result
 element-copy-out-result c = search needs
 
 returns : tie.Need-returns
-returns c = search (hex-there, needs)
+returns c = search hex-there
 
 pub hex-at-spec : {M : Type 1} → statement M
 hex-at-spec = tie.close (tie.spec element-copy-out-result returns)

@@ -23,13 +23,13 @@ enum-known-part : tie.Need-enum-known-part
 enum-known-part c = search needs
 
 returns : tie.Need-returns
-returns c = search (next·laws, needs)
+returns c = search next·laws
 
 returns-2 : tie.Need-returns-2
-returns-2 c = search (next·laws, needs)
+returns-2 c = search next·laws
 
 returns-3 : tie.Need-returns-3
-returns-3 c = search (next·laws, needs)
+returns-3 c = search next·laws
 
 pub next-data-spec : {M : Type 1} → statement M
 next-data-spec =

@@ -6,19 +6,19 @@ use Rattle.rows.proofs.quick_byte.Statement.{statement}
 use Rattle.rows.proofs.quick_byte.Tie as tie
 
 returns : tie.Need-returns
-returns c = search (quick·laws, needs)
+returns c = search quick·laws
 
 has-left-requires : tie.Need-has-left-requires
 has-left-requires c κs = search needs
 
 returns-2 : tie.Need-returns-2
-returns-2 c = search (quick·laws, needs)
+returns-2 c = search quick·laws
 
 four-at-requires : tie.Need-four-at-requires
-four-at-requires c κs = search (quick·laws, needs)
+four-at-requires c κs = search quick·laws
 
 returns-3 : tie.Need-returns-3
-returns-3 c = search (quick·laws, needs)
+returns-3 c = search quick·laws
 
 add-hex-at : tie.Need-add-hex-at
 add-hex-at c = search (quick·laws, needs)
@@ -30,7 +30,7 @@ hex-at-requires : tie.Need-hex-at-requires
 hex-at-requires c κs = search needs
 
 returns-4 : tie.Need-returns-4
-returns-4 c = search (quick·laws, needs)
+returns-4 c = search quick·laws
 
 add-hex-at-2 : tie.Need-add-hex-at-2
 add-hex-at-2 c = search (quick·laws, needs)
@@ -42,7 +42,7 @@ hex-at-requires-2 : tie.Need-hex-at-requires-2
 hex-at-requires-2 c κs = search needs
 
 returns-5 : tie.Need-returns-5
-returns-5 c = search (quick·laws, needs)
+returns-5 c = search quick·laws
 
 mul-t13 : tie.Need-mul-t13
 mul-t13 c = search needs
@@ -54,7 +54,7 @@ along-requires : tie.Need-along-requires
 along-requires c κs = search needs
 
 returns-6 : tie.Need-returns-6
-returns-6 c = search (quick·laws, needs)
+returns-6 c = search quick·laws
 
 pub quick-byte-spec : {M : Type 1} → statement M
 quick-byte-spec =

@@ -21,7 +21,7 @@ hex-values-requires : tie.Need-hex-values-requires Inv-loop μ-loop
 hex-values-requires c κs = search needs
 
 loop-holds : tie.Need-loop-holds Inv-loop μ-loop
-loop-holds c = search (going-start, needs)
+loop-holds c = search going-start
 
 next-data-requires : tie.Need-next-data-requires Inv-loop μ-loop
 next-data-requires c κs = search needs
@@ -33,16 +33,16 @@ same-length : tie.Need-same-length Inv-loop μ-loop
 same-length c = search needs
 
 returns : tie.Need-returns Inv-loop μ-loop
-returns c = search (going-few, needs)
+returns c = search going-few
 
 sub-left : tie.Need-sub-left Inv-loop μ-loop
-sub-left c = search (left-fits, needs)
+sub-left c = search left-fits
 
 add-start : tie.Need-add-start Inv-loop μ-loop
-add-start c = search (start-fits, needs)
+add-start c = search start-fits
 
 add-end : tie.Need-add-end Inv-loop μ-loop
-add-end c = search (eight-fits, needs)
+add-end c = search eight-fits
 
 sub-unpack : tie.Need-sub-unpack Inv-loop μ-loop
 sub-unpack c = search needs
@@ -75,22 +75,22 @@ unpack-requires-2 : tie.Need-unpack-requires-2 Inv-loop μ-loop
 unpack-requires-2 c κs = search needs
 
 add-row : tie.Need-add-row Inv-loop μ-loop
-add-row c = search (next-fits, needs)
+add-row c = search next-fits
 
 add-y : tie.Need-add-y Inv-loop μ-loop
 add-y c = search needs
 
 loop-less : tie.Need-loop-less Inv-loop μ-loop
-loop-less c = search (fewer-more, needs)
+loop-less c = search fewer-more
 
 loop-again : tie.Need-loop-again Inv-loop μ-loop
-loop-again c = search (going-more, needs)
+loop-again c = search going-more
 
 loop-less-2 : tie.Need-loop-less-2 Inv-loop μ-loop
-loop-less-2 c = search (fewer-next, needs)
+loop-less-2 c = search fewer-next
 
 loop-again-2 : tie.Need-loop-again-2 Inv-loop μ-loop
-loop-again-2 c = search (going-next, needs)
+loop-again-2 c = search going-next
 
 enum-known-part : tie.Need-enum-known-part Inv-loop μ-loop
 enum-known-part c = search needs
@@ -99,7 +99,7 @@ same-length-2 : tie.Need-same-length-2 Inv-loop μ-loop
 same-length-2 c = search needs
 
 returns-2 : tie.Need-returns-2 Inv-loop μ-loop
-returns-2 c = search (going-wrong, needs)
+returns-2 c = search going-wrong
 
 read-trailer-requires : tie.Need-read-trailer-requires Inv-loop μ-loop
 read-trailer-requires c κs = search needs
@@ -111,7 +111,7 @@ same-length-3 : tie.Need-same-length-3 Inv-loop μ-loop
 same-length-3 c = search needs
 
 returns-3 : tie.Need-returns-3 Inv-loop μ-loop
-returns-3 c = search (going-done, needs)
+returns-3 c = search going-done
 
 enum-known-part-2 : tie.Need-enum-known-part-2 Inv-loop μ-loop
 enum-known-part-2 c = search needs
@@ -120,13 +120,13 @@ same-length-4 : tie.Need-same-length-4 Inv-loop μ-loop
 same-length-4 c = search needs
 
 returns-4 : tie.Need-returns-4 Inv-loop μ-loop
-returns-4 c = search (going-many, needs)
+returns-4 c = search going-many
 
 same-length-5 : tie.Need-same-length-5 Inv-loop μ-loop
 same-length-5 c = search needs
 
 returns-5 : tie.Need-returns-5 Inv-loop μ-loop
-returns-5 c = search (going-bad, needs)
+returns-5 c = search going-bad
 
 pub read-rows-spec : {M : Type 1} → statement M
 read-rows-spec =

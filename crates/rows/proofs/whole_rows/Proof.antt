@@ -5,7 +5,7 @@ use Rattle.rows.proofs.whole_rows.Statement.{statement}
 use Rattle.rows.proofs.whole_rows.Tie as tie
 
 returns : tie.Need-returns
-returns c = search (rows-none, needs)
+returns c = search rows-none
 
 div-result : tie.Need-div-result
 div-result c = search needs

@@ -7,22 +7,22 @@ use Rattle.stored.proofs.compare_hotspot.Tie as tie
 
 returns : tie.Need-returns
 unfolding hotspotOn
-returns c = search (verdict·laws, needs)
+returns c = search verdict·laws
 
 returns-2 : tie.Need-returns-2
 unfolding hotspotOn
-returns-2 c = search (verdict·laws, needs)
+returns-2 c = search verdict·laws
 
 returns-3 : tie.Need-returns-3
 unfolding hotspotOn
-returns-3 c = search (verdict·laws, needs)
+returns-3 c = search verdict·laws
 
 compare-name-requires : tie.Need-compare-name-requires
 compare-name-requires c κs = search needs
 
 returns-4 : tie.Need-returns-4
 unfolding hotspotOn
-returns-4 c = search (verdict·laws, needs)
+returns-4 c = search verdict·laws
 
 pub compare-hotspot-spec : {M : Type 1} → statement M
 compare-hotspot-spec =

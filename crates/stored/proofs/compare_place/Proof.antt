@@ -7,22 +7,22 @@ use Rattle.stored.proofs.compare_place.Tie as tie
 
 returns : tie.Need-returns
 unfolding placeOn
-returns c = search (verdict·laws, needs)
+returns c = search verdict·laws
 
 returns-2 : tie.Need-returns-2
 unfolding placeOn
-returns-2 c = search (verdict·laws, needs)
+returns-2 c = search verdict·laws
 
 returns-3 : tie.Need-returns-3
 unfolding placeOn
-returns-3 c = search (verdict·laws, needs)
+returns-3 c = search verdict·laws
 
 compare-sides-requires : tie.Need-compare-sides-requires
 compare-sides-requires c κs = search needs
 
 returns-4 : tie.Need-returns-4
 unfolding placeOn
-returns-4 c = search (verdict·laws, needs)
+returns-4 c = search verdict·laws
 
 pub compare-place-spec : {M : Type 1} → statement M
 compare-place-spec =

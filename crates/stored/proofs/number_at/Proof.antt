@@ -5,7 +5,7 @@ use Rattle.stored.proofs.number_at.Statement.{statement}
 use Rattle.stored.proofs.number_at.Tie as tie
 
 returns : tie.Need-returns
-returns c = search (number-past, needs)
+returns c = search number-past
 
 byte-at-requires : tie.Need-byte-at-requires
 byte-at-requires c κs = search needs
@@ -47,7 +47,7 @@ add-result : tie.Need-add-result
 add-result c = search needs
 
 returns-2 : tie.Need-returns-2
-returns-2 c = search (number-in, needs)
+returns-2 c = search number-in
 
 pub number-at-spec : {M : Type 1} → statement M
 number-at-spec =

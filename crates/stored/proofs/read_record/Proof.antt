@@ -17,7 +17,7 @@ read-told-requires : tie.Need-read-told-requires
 read-told-requires c κs = search needs
 
 returns : tie.Need-returns
-returns c = search (record-is, needs)
+returns c = search record-is
 
 pub read-record-spec : {M : Type 1} → statement M
 read-record-spec =

@@ -41,7 +41,7 @@ number-at-requires-12 : tie.Need-number-at-requires-12
 number-at-requires-12 c κs = search needs
 
 returns : tie.Need-returns
-returns c = search (told-is, needs)
+returns c = search told-is
 
 pub read-told-spec : {M : Type 1} → statement M
 read-told-spec =

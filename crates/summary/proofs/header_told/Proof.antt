@@ -17,10 +17,10 @@ refusal-told-requires : tie.Need-refusal-told-requires
 refusal-told-requires c κs = search needs
 
 returns : tie.Need-returns
-returns c = search (answer·laws, needs)
+returns c = search answer·laws
 
 returns-2 : tie.Need-returns-2
-returns-2 c = search (answer·laws, needs)
+returns-2 c = search answer·laws
 
 pub header-told-spec : {M : Type 1} → statement M
 header-told-spec =

@@ -29,13 +29,13 @@ refused-requires : tie.Need-refused-requires
 refused-requires c κs = search needs
 
 returns : tie.Need-returns
-returns c = search (answer·laws, needs)
+returns c = search answer·laws
 
 returns-2 : tie.Need-returns-2
-returns-2 c = search (answer·laws, needs)
+returns-2 c = search answer·laws
 
 returns-3 : tie.Need-returns-3
-returns-3 c = search (answer·laws, needs)
+returns-3 c = search answer·laws
 
 pub image-told-spec : {M : Type 1} → statement M
 image-told-spec =

@@ -20,10 +20,10 @@ refused-requires-2 : tie.Need-refused-requires-2
 refused-requires-2 c κs = search needs
 
 returns : tie.Need-returns
-returns c = search (refusal·laws, needs)
+returns c = search refusal·laws
 
 returns-2 : tie.Need-returns-2
-returns-2 c = search (refusal·laws, needs)
+returns-2 c = search refusal·laws
 
 pub refusal-told-spec : {M : Type 1} → statement M
 refusal-told-spec =

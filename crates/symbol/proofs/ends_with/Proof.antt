@@ -18,10 +18,10 @@ abbrev μ-loop : tie.MeasureT-loop
 μ-loop bytes suffix start i₀ i = length suffix - i
 
 returns : tie.Need-returns Inv-loop μ-loop
-returns c = search (ends·laws, needs)
+returns c = search ends·laws
 
 sub-start : tie.Need-sub-start Inv-loop μ-loop
-sub-start c = search (ends·laws, needs)
+sub-start c = search ends·laws
 
 loop-holds : tie.Need-loop-holds Inv-loop μ-loop
 loop-holds c = search (ends·laws, needs)
@@ -33,7 +33,7 @@ shared-slice-read-if2 : tie.Need-shared-slice-read-if2 Inv-loop μ-loop
 shared-slice-read-if2 c = search (ends·laws, needs)
 
 shared-slice-read-if2-2 : tie.Need-shared-slice-read-if2-2 Inv-loop μ-loop
-shared-slice-read-if2-2 c = search (ends·laws, needs)
+shared-slice-read-if2-2 c = search ends·laws
 
 add-i : tie.Need-add-i Inv-loop μ-loop
 add-i c = search (ends·laws, needs)
@@ -45,10 +45,10 @@ loop-again : tie.Need-loop-again Inv-loop μ-loop
 loop-again c = search (ends·laws, needs)
 
 returns-2 : tie.Need-returns-2 Inv-loop μ-loop
-returns-2 c = search (ends·laws, needs)
+returns-2 c = search ends·laws
 
 returns-3 : tie.Need-returns-3 Inv-loop μ-loop
-returns-3 c = search (ends·laws, needs)
+returns-3 c = search ends·laws
 
 pub ends-with-spec : {M : Type 1} → statement M
 ends-with-spec =

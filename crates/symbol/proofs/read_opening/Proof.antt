@@ -23,7 +23,7 @@ then-gap-requires c κs = search needs
 
 returns : tie.Need-returns
 unfolding opening
-returns c = search (row-start, row-more, needs)
+returns c = search (row-start, row-more)
 
 pub read-opening-spec : {M : Type 1} → statement M
 read-opening-spec =

@@ -11,7 +11,7 @@ wrapping-add-u64-requires-2 : tie.Need-wrapping-add-u64-requires-2
 wrapping-add-u64-requires-2 c κs = search needs
 
 returns : tie.Need-returns
-returns c = search (built·laws, needs)
+returns c = search built·laws
 
 pub along-spec : {M : Type 1} → statement M
 along-spec = tie.close (tie.spec wrapping-add-u64-requires wrapping-add-u64-requires-2 returns)

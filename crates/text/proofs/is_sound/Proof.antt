@@ -5,13 +5,13 @@ use Rattle.text.proofs.is_sound.Statement.{statement}
 use Rattle.text.proofs.is_sound.Tie as tie
 
 returns : tie.Need-returns
-returns c = search (sound·laws, needs)
+returns c = search sound·laws
 
 add-result : tie.Need-add-result
 add-result c = search needs
 
 returns-2 : tie.Need-returns-2
-returns-2 c = search (sound·laws, needs)
+returns-2 c = search sound·laws
 
 pub is-sound-spec : {M : Type 1} → statement M
 is-sound-spec = tie.close (tie.spec returns add-result returns-2)

@@ -17,7 +17,7 @@ at-line-start-requires : tie.Need-at-line-start-requires
 at-line-start-requires c κs = search needs
 
 returns : tie.Need-returns
-returns c = search (built·laws, needs)
+returns c = search built·laws
 
 pub past-line-spec : {M : Type 1} → statement M
 past-line-spec =

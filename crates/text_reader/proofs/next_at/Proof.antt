@@ -36,10 +36,10 @@ enum-told : tie.Need-enum-told
 enum-told c = search needs
 
 returns : tie.Need-returns
-returns c = search (moved-next, needs)
+returns c = search moved-next
 
 returns-2 : tie.Need-returns-2
-returns-2 c = search (moved-end, needs)
+returns-2 c = search moved-end
 
 pub next-at-spec : {M : Type 1} → statement M
 next-at-spec = tie.close (tie.spec take-requires enum-known-b enum-told returns returns-2)

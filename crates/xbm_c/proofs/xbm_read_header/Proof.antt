@@ -20,7 +20,7 @@ same-length : tie.Need-same-length
 same-length c = search needs
 
 returns : tie.Need-returns
-returns c = search (call·laws, needs)
+returns c = search call·laws
 
 pub xbm-read-header-spec : {M : Type 1} → statement M
 xbm-read-header-spec =

@@ -23,7 +23,7 @@ same-length-2 : tie.Need-same-length-2
 same-length-2 c = search needs
 
 returns : tie.Need-returns
-returns c = search (call·laws, needs)
+returns c = search call·laws
 
 pub xbm-read-image-spec : {M : Type 1} → statement M
 xbm-read-image-spec =
