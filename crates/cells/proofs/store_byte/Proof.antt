@@ -23,19 +23,19 @@ rem-x : tie.Need-rem-x
 rem-x c = search needs
 
 mul-x : tie.Need-mul-x
-mul-x c = search storing·laws
+mul-x c = search (storing·laws, needs)
 
 sub-left : tie.Need-sub-left
-sub-left c = search storing·laws
+sub-left c = search (storing·laws, needs)
 
 mul-start : tie.Need-mul-start
-mul-start c = search storing·laws
+mul-start c = search (storing·laws, needs)
 
 add-start : tie.Need-add-start
-add-start c = search storing·laws
+add-start c = search (storing·laws, needs)
 
 add-end : tie.Need-add-end
-add-end c = search storing·laws
+add-end c = search (storing·laws, needs)
 
 sub-unpack : tie.Need-sub-unpack
 sub-unpack c = search needs
@@ -44,7 +44,7 @@ part-unpack-start : tie.Need-part-unpack-start
 part-unpack-start c = search needs
 
 part-unpack-end : tie.Need-part-unpack-end
-part-unpack-end c = search storing·laws
+part-unpack-end c = search (storing·laws, needs)
 
 unpack-requires : tie.Need-unpack-requires
 unpack-requires c κs = search needs
@@ -56,7 +56,7 @@ returns-3 : tie.Need-returns-3
 returns-3 c = search storing·laws
 
 add-end-2 : tie.Need-add-end-2
-add-end-2 c = search storing·laws
+add-end-2 c = search (storing·laws, needs)
 
 sub-unpack-2 : tie.Need-sub-unpack-2
 sub-unpack-2 c = search needs
@@ -65,7 +65,7 @@ part-unpack-start-2 : tie.Need-part-unpack-start-2
 part-unpack-start-2 c = search needs
 
 part-unpack-end-2 : tie.Need-part-unpack-end-2
-part-unpack-end-2 c = search storing·laws
+part-unpack-end-2 c = search (storing·laws, needs)
 
 unpack-requires-2 : tie.Need-unpack-requires-2
 unpack-requires-2 c κs = search needs

@@ -16,10 +16,10 @@ loop-holds : tie.Need-loop-holds Inv-loop μ-loop
 loop-holds c = search dabbing·laws
 
 least-requires : tie.Need-least-requires Inv-loop μ-loop
-least-requires c κs = search dabbing·laws
+least-requires c κs = search (dabbing·laws, needs)
 
 slice-write-cells : tie.Need-slice-write-cells Inv-loop μ-loop
-slice-write-cells c = search dabbing·laws
+slice-write-cells c = search (dabbing·laws, needs)
 
 add-i : tie.Need-add-i Inv-loop μ-loop
 add-i c = search (dabbing·laws, needs)
@@ -31,7 +31,7 @@ loop-again : tie.Need-loop-again Inv-loop μ-loop
 loop-again c = search dabbing·laws
 
 same-length : tie.Need-same-length Inv-loop μ-loop
-same-length c = search dabbing·laws
+same-length c = search (dabbing·laws, needs)
 
 returns : tie.Need-returns Inv-loop μ-loop
 returns c = search dabbing·laws

@@ -8,7 +8,7 @@ add-result : tie.Need-add-result
 add-result c = search needs
 
 mul-result : tie.Need-mul-result
-mul-result c = search size-fits
+mul-result c = search (size-fits, needs)
 
 returns : tie.Need-returns
 returns c = search needs

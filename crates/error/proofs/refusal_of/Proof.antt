@@ -17,7 +17,7 @@ part-number-requires-2 : tie.Need-part-number-requires-2
 part-number-requires-2 c κs = search needs
 
 add-t8 : tie.Need-add-t8
-add-t8 c = search refusal·laws
+add-t8 c = search (refusal·laws, needs)
 
 enum-told : tie.Need-enum-told
 enum-told c = search needs

@@ -13,10 +13,10 @@ enum-known-n : tie.Need-enum-known-n
 enum-known-n c = search needs
 
 array-share-prefix-digits : tie.Need-array-share-prefix-digits
-array-share-prefix-digits c = search size·laws
+array-share-prefix-digits c = search (size·laws, needs)
 
 slice-aggregate-parse-u32 : tie.Need-slice-aggregate-parse-u32
-slice-aggregate-parse-u32 c = search size·laws
+slice-aggregate-parse-u32 c = search (size·laws, needs)
 
 parse-u32-requires : tie.Need-parse-u32-requires
 parse-u32-requires c κs = search needs

@@ -11,10 +11,10 @@ enum-known-n : tie.Need-enum-known-n
 enum-known-n c = search needs
 
 slice-reshare-prefix-read-sides : tie.Need-slice-reshare-prefix-read-sides
-slice-reshare-prefix-read-sides c = search header·laws
+slice-reshare-prefix-read-sides c = search (header·laws, needs)
 
 slice-aggregate-read-sides : tie.Need-slice-aggregate-read-sides
-slice-aggregate-read-sides c = search header·laws
+slice-aggregate-read-sides c = search (header·laws, needs)
 
 read-sides-requires : tie.Need-read-sides-requires
 read-sides-requires c κs = search needs

@@ -32,10 +32,10 @@ enum-known-lo : tie.Need-enum-known-lo
 enum-known-lo c = search needs
 
 mul-t22 : tie.Need-mul-t22
-mul-t22 c = search hi-fits
+mul-t22 c = search (hi-fits, needs)
 
 add-t23 : tie.Need-add-t23
-add-t23 c = search byte-fits
+add-t23 c = search (byte-fits, needs)
 
 enum-known-q-2 : tie.Need-enum-known-q-2
 enum-known-q-2 c = search needs

@@ -13,10 +13,10 @@ enum-known-n : tie.Need-enum-known-n
 enum-known-n c = search needs
 
 array-share-prefix-digits : tie.Need-array-share-prefix-digits
-array-share-prefix-digits c = search size·laws
+array-share-prefix-digits c = search (size·laws, needs)
 
 slice-aggregate-parse-i32 : tie.Need-slice-aggregate-parse-i32
-slice-aggregate-parse-i32 c = search size·laws
+slice-aggregate-parse-i32 c = search (size·laws, needs)
 
 parse-i32-requires : tie.Need-parse-i32-requires
 parse-i32-requires c κs = search needs

@@ -17,7 +17,7 @@ slice-relend-prefix-read-picture : tie.Need-slice-relend-prefix-read-picture
 slice-relend-prefix-read-picture c = search needs
 
 slice-aggregate-read-picture : tie.Need-slice-aggregate-read-picture
-slice-aggregate-read-picture c = search bounded·laws
+slice-aggregate-read-picture c = search (bounded·laws, needs)
 
 read-picture-requires : tie.Need-read-picture-requires
 read-picture-requires c κs = search needs

@@ -5,7 +5,7 @@ use Rattle.ink.proofs.cell_count.Statement.{statement}
 use Rattle.ink.proofs.cell_count.Tie as tie
 
 mul-result : tie.Need-mul-result
-mul-result c = search count-fits
+mul-result c = search (count-fits, needs)
 
 returns : tie.Need-returns
 returns c = search needs

@@ -16,13 +16,13 @@ loop-holds : tie.Need-loop-holds Inv-loop μ-loop
 loop-holds c = search counting·laws
 
 shared-slice-read-ink-at : tie.Need-shared-slice-read-ink-at Inv-loop μ-loop
-shared-slice-read-ink-at c = search counting·laws
+shared-slice-read-ink-at c = search (counting·laws, needs)
 
 ink-at-requires : tie.Need-ink-at-requires Inv-loop μ-loop
-ink-at-requires c κs = search counting·laws
+ink-at-requires c κs = search (counting·laws, needs)
 
 add-n : tie.Need-add-n Inv-loop μ-loop
-add-n c = search counting·laws
+add-n c = search (counting·laws, needs)
 
 add-i : tie.Need-add-i Inv-loop μ-loop
 add-i c = search (counting·laws, needs)

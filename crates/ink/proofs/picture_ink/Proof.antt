@@ -11,7 +11,7 @@ at-most-requires : tie.Need-at-most-requires
 at-most-requires c κs = search needs
 
 slice-aggregate-count-ink : tie.Need-slice-aggregate-count-ink
-slice-aggregate-count-ink c = search (size-fits, ink-first)
+slice-aggregate-count-ink c = search (size-fits, ink-first, needs)
 
 count-ink-requires : tie.Need-count-ink-requires
 count-ink-requires c κs = search needs

@@ -18,13 +18,13 @@ loop-holds : tie.Need-loop-holds Inv-loop μ-loop
 loop-holds c = search (input·laws, needs)
 
 read-on-requires : tie.Need-read-on-requires Inv-loop μ-loop
-read-on-requires c κs = search input·laws
+read-on-requires c κs = search (input·laws, needs)
 
 enum-known-n : tie.Need-enum-known-n Inv-loop μ-loop
-enum-known-n c = search input·laws
+enum-known-n c = search (input·laws, needs)
 
 same-length : tie.Need-same-length Inv-loop μ-loop
-same-length c = search input·laws
+same-length c = search (input·laws, needs)
 
 returns : tie.Need-returns Inv-loop μ-loop
 returns c = came (omega arith)
@@ -36,16 +36,16 @@ loop-again : tie.Need-loop-again Inv-loop μ-loop
 loop-again c = (search input·laws, omega arith)
 
 enum-told : tie.Need-enum-told Inv-loop μ-loop
-enum-told c = search input·laws
+enum-told c = search (input·laws, needs)
 
 same-length-2 : tie.Need-same-length-2 Inv-loop μ-loop
-same-length-2 c = search input·laws
+same-length-2 c = search (input·laws, needs)
 
 returns-2 : tie.Need-returns-2 Inv-loop μ-loop
 returns-2 c = search input·laws
 
 same-length-3 : tie.Need-same-length-3 Inv-loop μ-loop
-same-length-3 c = search input·laws
+same-length-3 c = search (input·laws, needs)
 
 returns-3 : tie.Need-returns-3 Inv-loop μ-loop
 returns-3 c = search input·laws

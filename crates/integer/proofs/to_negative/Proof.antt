@@ -11,10 +11,10 @@ cast-t3 : tie.Need-cast-t3
 cast-t3 c = search needs
 
 sub-t4 : tie.Need-sub-t4
-sub-t4 c = search neg-sub-fits
+sub-t4 c = search (neg-sub-fits, needs)
 
 cast-t5 : tie.Need-cast-t5
-cast-t5 c = search neg-cast-fits
+cast-t5 c = search (neg-cast-fits, needs)
 
 returns-2 : tie.Need-returns-2
 returns-2 c = search negative-to

@@ -8,7 +8,7 @@ within-requires : tie.Need-within-requires
 within-requires c κs = search needs
 
 slice-aggregate-result : tie.Need-slice-aggregate-result
-slice-aggregate-result c = search name·laws
+slice-aggregate-result c = search (name·laws, needs)
 
 returns : tie.Need-returns
 returns c = search name·laws

@@ -16,10 +16,10 @@ loop-holds : tie.Need-loop-holds Inv-loop μ-loop
 loop-holds c = search putting·laws
 
 shared-slice-read-put-byte : tie.Need-shared-slice-read-put-byte Inv-loop μ-loop
-shared-slice-read-put-byte c = search putting·laws
+shared-slice-read-put-byte c = search (putting·laws, needs)
 
 put-byte-requires : tie.Need-put-byte-requires Inv-loop μ-loop
-put-byte-requires c κs = search putting·laws
+put-byte-requires c κs = search (putting·laws, needs)
 
 add-i : tie.Need-add-i Inv-loop μ-loop
 add-i c = search (putting·laws, needs)
@@ -31,7 +31,7 @@ loop-again : tie.Need-loop-again Inv-loop μ-loop
 loop-again c = search putting·laws
 
 same-length : tie.Need-same-length Inv-loop μ-loop
-same-length c = search putting·laws
+same-length c = search (putting·laws, needs)
 
 returns : tie.Need-returns Inv-loop μ-loop
 returns c = search putting·laws

@@ -8,10 +8,10 @@ put-byte-requires : tie.Need-put-byte-requires
 put-byte-requires c κs = search needs
 
 cast-put-decimal : tie.Need-cast-put-decimal
-cast-put-decimal c = search signed·laws
+cast-put-decimal c = search (signed·laws, needs)
 
 sub-put-decimal : tie.Need-sub-put-decimal
-sub-put-decimal c = search signed·laws
+sub-put-decimal c = search (signed·laws, needs)
 
 cast-put-decimal-2 : tie.Need-cast-put-decimal-2
 cast-put-decimal-2 c = magnitude-fits _ (c .before .before .before .before .before .before .before .fits .z) (c .before .before .before .before .before .if1 .taken)

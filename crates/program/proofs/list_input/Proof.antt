@@ -8,7 +8,7 @@ at-most-requires : tie.Need-at-most-requires
 at-most-requires c κs = search needs
 
 slice-aggregate-list : tie.Need-slice-aggregate-list
-slice-aggregate-list c = search came-size
+slice-aggregate-list c = search (came-size, needs)
 
 list-requires : tie.Need-list-requires
 list-requires c κs = search needs

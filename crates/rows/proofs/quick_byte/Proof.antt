@@ -15,7 +15,7 @@ returns-2 : tie.Need-returns-2
 returns-2 c = search quick·laws
 
 four-at-requires : tie.Need-four-at-requires
-four-at-requires c κs = search quick·laws
+four-at-requires c κs = search (quick·laws, needs)
 
 returns-3 : tie.Need-returns-3
 returns-3 c = search quick·laws

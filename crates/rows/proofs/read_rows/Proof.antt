@@ -36,13 +36,13 @@ returns : tie.Need-returns Inv-loop μ-loop
 returns c = search going-few
 
 sub-left : tie.Need-sub-left Inv-loop μ-loop
-sub-left c = search left-fits
+sub-left c = search (left-fits, needs)
 
 add-start : tie.Need-add-start Inv-loop μ-loop
-add-start c = search start-fits
+add-start c = search (start-fits, needs)
 
 add-end : tie.Need-add-end Inv-loop μ-loop
-add-end c = search eight-fits
+add-end c = search (eight-fits, needs)
 
 sub-unpack : tie.Need-sub-unpack Inv-loop μ-loop
 sub-unpack c = search needs
@@ -75,7 +75,7 @@ unpack-requires-2 : tie.Need-unpack-requires-2 Inv-loop μ-loop
 unpack-requires-2 c κs = search needs
 
 add-row : tie.Need-add-row Inv-loop μ-loop
-add-row c = search next-fits
+add-row c = search (next-fits, needs)
 
 add-y : tie.Need-add-y Inv-loop μ-loop
 add-y c = search needs

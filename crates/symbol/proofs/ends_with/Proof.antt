@@ -21,7 +21,7 @@ returns : tie.Need-returns Inv-loop μ-loop
 returns c = search ends·laws
 
 sub-start : tie.Need-sub-start Inv-loop μ-loop
-sub-start c = search ends·laws
+sub-start c = search (ends·laws, needs)
 
 loop-holds : tie.Need-loop-holds Inv-loop μ-loop
 loop-holds c = search (ends·laws, needs)
@@ -33,7 +33,7 @@ shared-slice-read-if2 : tie.Need-shared-slice-read-if2 Inv-loop μ-loop
 shared-slice-read-if2 c = search (ends·laws, needs)
 
 shared-slice-read-if2-2 : tie.Need-shared-slice-read-if2-2 Inv-loop μ-loop
-shared-slice-read-if2-2 c = search ends·laws
+shared-slice-read-if2-2 c = search (ends·laws, needs)
 
 add-i : tie.Need-add-i Inv-loop μ-loop
 add-i c = search (ends·laws, needs)

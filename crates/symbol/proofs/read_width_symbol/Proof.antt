@@ -23,10 +23,10 @@ enum-known-n : tie.Need-enum-known-n
 enum-known-n c = search needs
 
 slice-reshare-prefix-ends-with : tie.Need-slice-reshare-prefix-ends-with
-slice-reshare-prefix-ends-with c = search symbol·laws
+slice-reshare-prefix-ends-with c = search (symbol·laws, needs)
 
 slice-aggregate-ends-with : tie.Need-slice-aggregate-ends-with
-slice-aggregate-ends-with c = search symbol·laws
+slice-aggregate-ends-with c = search (symbol·laws, needs)
 
 slice-aggregate-ends-with-2 : tie.Need-slice-aggregate-ends-with-2
 slice-aggregate-ends-with-2 c = search needs
@@ -35,7 +35,7 @@ ends-with-requires : tie.Need-ends-with-requires
 ends-with-requires c κs = search needs
 
 sub-t25 : tie.Need-sub-t25
-sub-t25 c = search symbol·laws
+sub-t25 c = search (symbol·laws, needs)
 
 enum-known-q-2 : tie.Need-enum-known-q-2
 enum-known-q-2 c = search needs
