@@ -30,8 +30,8 @@ taken-min (suc n) [] = ap (λ (m : ℕ). take m []) (min-zero (suc n))
 taken-min (suc n) (x ∷ l) = ap (λ (m : ℕ). take m (x ∷ l)) (suc-min-suc n (length l)) ∙ ap (λ (t : List ℕ). x ∷ t) (taken-min n l)
 
 -- the promise speaks of some input at every call
-pub holds-own : (text : List ℕ) (n : ℕ) → n ≤ length text → Holds text n (take n text)
-holds-own text n h = sym (take-all (length text) (take n text) (omega (arith, length-take n text)))
+pub holds-own : (text : List ℕ) (n : ℕ) → Holds text n (take n text)
+holds-own text n = sym (take-all (length text) (take n text) (omega (arith, length-take n text)))
 
 -- with room for every listing, all of it is written and the rest of the output is as lent
 module _ (w out out′ : List ℕ) (r : ℕ) (short : length w ≤ length out) (e : output out′ r ≡ puts w (output out 0)) where
@@ -81,7 +81,7 @@ module _ (text : List ℕ) (n : ℕ) (name cells out name′ cells′ : List ℕ
   lists-taken : 65536 < length text → 133 ≤ length out → length name ≡ 256 → length cells ≡ 65536 → ListsInput text n name cells out name′ cells′ out′ r
   lists-taken l h s p = record { prints = prints l h s; symbol = s; picture = p; within = within _ out out′ r (short h) (k .prints) }
 
--- what is listed is as much of the buffer as came, or all of it
+-- what is listed is as much of the buffer as came, or all of it where more is said to have come
 module _ (text : List ℕ) (n m : ℕ) (name cells out name′ cells′ : List ℕ) {out′ : List ℕ} {r : ℕ} where
   pub lists-input : Lists 65536 65536 (take m text) name cells out name′ cells′ out′ r → m ≡ min n (length text)
       → 65536 < length text → 133 ≤ length out → length name ≡ 256 → length cells ≡ 65536 → ListsInput text n name cells out name′ cells′ out′ r

@@ -20,6 +20,7 @@ pub const CELLS_SIZE: usize = CELL_LIMIT as usize;
 // Room for every listing.
 pub const OUT_SIZE: usize = 133;
 
+// As many as came, and no more than the buffer has.
 fn at_most(n: usize, buffer: &[u8]) -> usize
     ensures { λ r. ⌜ r ≡ min n (length (now (buffer .entry))) ⌝ }
 {
