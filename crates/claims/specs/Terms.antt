@@ -101,5 +101,5 @@ HotWords (some (x, y)) = Coordinate x · Lit " " · Coordinate y
 -- the lines of an answer, with the ink where it is accepted
 abbrev pub Lines : Outcome Head → ℕ → Lang
 Lines (accepted h) ink = (Field "width " (h .width) · Field "\nheight " (h .height)) · (Lit "\nhotspot " · HotWords (h .hot)) · (Field "\nink " ink · Lit "\n")
-Lines (refused c p) ink = Field "refused " c · (Field " byte=" (p .byte .0) · Field ",line=" (p .line .0) · Field ":col=" (p .column .0)) · Lit "\n"
+Lines (refused c p) ink = Field "refused " c · (Field " byte=" (p .byte .0) · Field ",line=" (p .line .0) · Field ":col=" (p .column .0) · Field ",start=" (p .start .0)) · Lit "\n"
 Lines (unplaced c) ink = Field "refused " c · Lit "\n"

@@ -1,11 +1,12 @@
--- A place past some bytes, as counts of bytes, newlines and bytes since the last newline.
+-- A place past some bytes, as counts of bytes, newlines, bytes since the last newline and bytes up to it.
 use mathlib.Core.Path.{_≡_, refl, ap, _∙_}
 use mathlib.Core.Logic.{_⊎_, inl, inr}
-use Prim.Native.Nat.{ℕ, _+_, _≤_, min}
+use Prim.Native.Nat.{ℕ, zero, suc, _+_, _-_, _≤_, _<_, min}
 use native.Mathlib.Omega.{arith}
 use mathlib.Core.Bool.{Bool, true, false, not}
 use mathlib.Core.List.{List, [], _∷_, _++_}
-use lib.ListN.{length}
+use lib.ListN.{length, take, length-append}
+use lib.Seq.{length-take-le}
 use lib.Dec.{eqb}
 use borrow.Author.Tests.{not-true, eqb-true}
 use Rattle.text.specs.declared.TextLocation.{TextLocation}
@@ -14,7 +15,7 @@ use Rattle.text.specs.Place.{pick, after, start, past}
 use Rattle.text.specs.Rest.{newlines}
 use Rattle.grammar.specs.Lang.{All}
 use Rattle.grammar.specs.Bind.{past-append, past-byte}
-use Rattle.places.specs.Terms.{Counted}
+use Rattle.places.specs.Terms.{Counted, sooner, lineStart, Onward}
 
 -- the line: 2 ^ 64 - 1 stays
 lined : (d : Bool) (l n m : ℕ) → l ≤ m → min (pick d (min (l + 1) m) l + n) m ≡ min (l + (pick d 1 0 + n)) m
@@ -30,11 +31,73 @@ unfolding after
 past-line p [] h = omega arith
 past-line p (b ∷ w) h = past-line (after b p) w (room (eqb b 10) (p .line .0) 18446744073709551615 h) ∙ lined (eqb b 10) (p .line .0) (newlines w) 18446744073709551615 h
 
+-- column and start, by the column, byte and start before and the line start of the bytes between
+abbrev columnBy : ℕ → ℕ → ℕ → ℕ
+columnBy column bytes zero = column + bytes
+columnBy column bytes (suc n) = bytes - suc n
+
+abbrev startBy : ℕ → ℕ → ℕ → ℕ
+startBy start byte zero = start
+startBy start byte (suc n) = byte + suc n
+
+column-step : (d : Bool) (c k n : ℕ) → columnBy (pick d 0 (c + 1)) k n ≡ columnBy c (suc k) (sooner d n)
+column-step true c k zero = omega arith
+column-step true c k (suc n) = omega arith
+column-step false c k zero = omega arith
+column-step false c k (suc n) = omega arith
+
+start-step : (d : Bool) (s b n : ℕ) → startBy (pick d (b + 1) s) (b + 1) n ≡ startBy s b (sooner d n)
+start-step true s b zero = omega arith
+start-step true s b (suc n) = omega arith
+start-step false s b zero = omega arith
+start-step false s b (suc n) = omega arith
+
+past-columns : (p : TextLocation) (w : List ℕ) → past p w .column .0 ≡ columnBy (p .column .0) (length w) (lineStart w)
+unfolding after
+past-columns p [] = omega arith
+past-columns p (b ∷ w) = past-columns (after b p) w ∙ column-step (eqb b 10) (p .column .0) (length w) (lineStart w)
+
+past-starts : (p : TextLocation) (w : List ℕ) → past p w .start .0 ≡ startBy (p .start .0) (p .byte .0) (lineStart w)
+unfolding after
+past-starts p [] = omega arith
+past-starts p (b ∷ w) = past-starts (after b p) w ∙ start-step (eqb b 10) (p .start .0) (p .byte .0) (lineStart w)
+
+-- from any place on
+pub onward : (p : TextLocation) (w : List ℕ) → Onward p w (past p w)
+onward p w = record {
+  byte = past-byte p w;
+  line = past-line p w;
+  same = λ z. (rw z at (past-columns p w), rw z at (past-starts p w));
+  next = λ l. behind (lineStart w) l (past-columns p w) (past-starts p w);
+}
+  where
+    behind : (n : ℕ) → 0 < n → past p w .column .0 ≡ columnBy (p .column .0) (length w) n → past p w .start .0 ≡ startBy (p .start .0) (p .byte .0) n
+        → (past p w .column .0 ≡ length w - n) × (past p w .start .0 ≡ p .byte .0 + n)
+    behind zero l c s = absurd (omega arith)
+    behind (suc n) l c s = (c, s)
+
+-- from the start on
+from-start : (n k : ℕ) → (columnBy 0 k n ≡ k - n) × (startBy 0 0 n ≡ n)
+from-start zero k = (omega arith, omega arith)
+from-start (suc n) k = (omega arith, omega arith)
+
+pub starts : (text : List ℕ) (n : ℕ) → n ≤ length text
+    → (past start (take n text) .start .0 ≡ lineStart (take n text)) × (past start (take n text) .column .0 ≡ n - lineStart (take n text))
+starts t n h =
+    let (c, s) = from-start (lineStart (take n t)) (length (take n t)) in
+    (past-starts start (take n t) ∙ s, past-columns start (take n t) ∙ c ∙ ap (λ (k : ℕ). k - lineStart (take n t)) (length-take-le n t h))
+
 -- the column: no newline starts it again
 past-column : (p : TextLocation) (l : List ℕ) → All (λ b. not (eqb b 10)) l → past p l .column .0 ≡ p .column .0 + length l
 unfolding after
 past-column p [] h = omega arith
 past-column p (b ∷ l) (h, k) = past-column (after b p) l k ∙ rw (not-true (eqb b 10) h) (omega arith)
+
+-- nor does the line's start move
+past-start : (p : TextLocation) (l : List ℕ) → All (λ b. not (eqb b 10)) l → past p l .start .0 ≡ p .start .0
+unfolding after
+past-start p [] h = refl
+past-start p (b ∷ l) (h, k) = past-start (after b p) l k ∙ rw (not-true (eqb b 10) h)
 
 -- the bytes up to the last newline, and those after it
 abbrev Split : List ℕ → Type 0
@@ -58,9 +121,10 @@ counted w = let (u, l, q, e, a) = split w in record {
   plain = a;
   byte = past-byte start w ∙ omega arith;
   line = past-line start w (omega arith);
-  column = ap (λ (x : List ℕ). past start x .column .0) q ∙ ap (λ (p : TextLocation). p .column .0) (past-append start u l) ∙ past-column (past start u) l a ∙ ap (λ (n : ℕ). n + length l) (fresh u e) ∙ omega arith;
+  column = ap (λ (x : List ℕ). past start x .column .0) q ∙ ap (λ (p : TextLocation). p .column .0) (past-append start u l) ∙ past-column (past start u) l a ∙ ap (λ (n : ℕ). n + length l) (fresh u e .0) ∙ omega arith;
+  start = ap (λ (x : List ℕ). past start x .start .0) q ∙ ap (λ (p : TextLocation). p .start .0) (past-append start u l) ∙ past-start (past start u) l a ∙ fresh u e .1;
 }
   where
-    fresh : (u : List ℕ) → (u ≡ []) ⊎ ((v : List ℕ) × (u ≡ v ++ ascii "\n")) → past start u .column .0 ≡ 0
-    fresh u (inl e) = rw e
-    fresh u (inr (v, e)) = unfold after in (rw (e, past-append start v (ascii "\n")))
+    fresh : (u : List ℕ) → (u ≡ []) ⊎ ((v : List ℕ) × (u ≡ v ++ ascii "\n")) → (past start u .column .0 ≡ 0) × (past start u .start .0 ≡ length u)
+    fresh u (inl e) = rw e (refl, refl)
+    fresh u (inr (v, e)) = unfold after in (rw (e, past-append start v (ascii "\n")) (refl, omega (arith, past-byte start v, length-append v (ascii "\n"))))

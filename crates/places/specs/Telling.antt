@@ -75,6 +75,9 @@ module _ (t name pixels : List ℕ) (c : ℕ) (p : TextLocation) (a : reading t 
   reached : Reach t start p
   reached = rw at-it at (picture-checks limit cells .near .reach t start)
 
+  pub aligned : p .start .0 + p .column .0 ≡ p .byte .0
+  aligned = walk-sound reached start-sound .start
+
   pub inside : byteOf p ≤ length t
   inside = reach-inside t start reached (omega arith)
 
