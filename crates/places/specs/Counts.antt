@@ -112,7 +112,7 @@ split (b ∷ w) = let (u, l, q, e, a) = split w in go (eqb b 10) refl u l q e a
     go true z u l q (inl e) a = (b ∷ [], l, ap (λ (x : List ℕ). b ∷ x) (q ∙ ap (λ (x : List ℕ). x ++ l) e), inr ([], ap (λ (x : ℕ). x ∷ []) (eqb-true b 10 z)), a)
     go false z u l q (inl e) a = ([], b ∷ l, ap (λ (x : List ℕ). b ∷ x) (q ∙ ap (λ (x : List ℕ). x ++ l) e), inl refl, (ap not z, a))
 
-pub counted : (w : List ℕ) → Counted w (past start w)
+counted : (w : List ℕ) → Counted w (past start w)
 counted w = let (u, l, q, e, a) = split w in record {
   whole = u;
   begun = l;
@@ -128,3 +128,6 @@ counted w = let (u, l, q, e, a) = split w in record {
     fresh : (u : List ℕ) → (u ≡ []) ⊎ ((v : List ℕ) × (u ≡ v ++ ascii "\n")) → (past start u .column .0 ≡ 0) × (past start u .start .0 ≡ length u)
     fresh u (inl e) = rw e (refl, refl)
     fresh u (inr (v, e)) = unfold after in (rw (e, past-append start v (ascii "\n")) (refl, omega (arith, past-byte start v, length-append v (ascii "\n"))))
+
+pub counted-at : (w : List ℕ) {p : TextLocation} → p ≡ past start w → Counted w p
+counted-at w e = rw e (counted w)

@@ -26,4 +26,4 @@ pub opens : (text name : List ℕ) (h : Head) (p : TextLocation) → shown (head
     → (m : Mask) × (u : List ℕ) × (v : List ℕ) × (headOf m ≡ h) × (text ≡ u ++ v) × Header (length name) m u × (p ≡ past start u) × Counted u p
 opens t name h p a =
     let (u, v, d, k, f, o) = header-exactly (length name) (made h []) t start p .0 (read-so (header (length name) t start) h p a) in
-    (made h [], u, v, refl, sym (start-rest t) ∙ d, k, o, rw o (Counts.counted u))
+    (made h [], u, v, refl, sym (start-rest t) ∙ d, k, o, Counts.counted-at u o)

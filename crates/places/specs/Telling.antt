@@ -87,10 +87,7 @@ module _ (t name pixels : List ℕ) (c : ℕ) (p : TextLocation) (a : reading t 
       (sym (past-byte start (take (byteOf p) t) ∙ omega (arith, length-take-le (byteOf p) t inside)))
 
   pub counted : Counted (take (byteOf p) t) p
-  counted = go there
-    where
-      go : {q : TextLocation} → q ≡ past start (take (byteOf p) t) → Counted (take (byteOf p) t) q
-      go e = rw e (Counts.counted (take (byteOf p) t))
+  counted = Counts.counted-at (take (byteOf p) t) there
 
   all-of : rest t p ≡ [] → byteOf p ≡ length t
   all-of e = omega (arith, inside, length-drop (byteOf p) t, ap length (sym (sound-rest t p (walk-sound reached start-sound)) ∙ e))

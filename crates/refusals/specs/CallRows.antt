@@ -198,8 +198,8 @@ module _ (t : List ℕ) (d : XbmStreamDecoder) (h : Foreign t d → ⊥) where
 
   -- ---- the later decoder
 
-  pub native : Foreign t (stepOf t d .decoder) → ⊥
-  native x = false≢true (sym (not-foreign t (stepOf t d .decoder) (still-native t d sound)) ∙ foreign-exactly t (stepOf t d .decoder) .1 x)
+  pub never-foreign : Foreign t (stepOf t d .decoder) → ⊥
+  never-foreign x = false≢true (sym (not-foreign t (stepOf t d .decoder) (still-native t d sound)) ∙ foreign-exactly t (stepOf t d .decoder) .1 x)
 
   pub aligned : stepOf t d .decoder .location .start .0 + stepOf t d .decoder .location .column .0 ≡ stepOf t d .decoder .location .byte .0
   aligned = still-native t d sound .place .start

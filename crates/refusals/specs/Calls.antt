@@ -122,15 +122,11 @@ of-here t d q = record {
   high = λ x. not-so (no-height x);
   position = under (λ x. not-so (position x));
   inside = under (λ x. not-so (byte x));
-  place = record { start = made-up _ refl; line = under (λ x. not-so (line x)) };
+  place = record { start = adds-up _ refl; line = under (λ x. not-so (line x)) };
 }
   where
     not-so : Foreign t d → ⊥
     not-so x = false≢true (sym q ∙ foreign-exactly t d .1 x)
-
-    made-up : (f : Bool) → eqb (d .location .start .0 + d .location .column .0) (d .location .byte .0) ≡ f → d .location .start .0 + d .location .column .0 ≡ d .location .byte .0
-    made-up true u = eqb-true _ _ u
-    made-up false u = absurd (not-so (start (λ x. eqb-false (d .location .start .0 + d .location .column .0) (d .location .byte .0) u (omega (arith, under (λ y. not-so (column y)))))))
 
     under : {a b : ℕ} → (b < a → ⊥) → a ≤ b
     under {a} {b} h = go (decLt b a)
@@ -138,6 +134,10 @@ of-here t d q = record {
         go : Dec (b < a) → a ≤ b
         go (yes l) = absurd (h l)
         go (no l) = omega arith
+
+    adds-up : (f : Bool) → eqb (d .location .start .0 + d .location .column .0) (d .location .byte .0) ≡ f → d .location .start .0 + d .location .column .0 ≡ d .location .byte .0
+    adds-up true u = eqb-true _ _ u
+    adds-up false u = absurd (not-so (start (λ x. eqb-false (d .location .start .0 + d .location .column .0) (d .location .byte .0) u (omega (arith, under (λ y. not-so (column y)))))))
 
 -- a call leaves no foreign decoder behind
 called-local : (d : XbmStreamDecoder) → Local (called d)

@@ -98,7 +98,7 @@ pub record Called (text : List ℕ) (d : XbmStreamDecoder) (call : Step) : Type 
       → (byteOf (d .location) ≤ byteOf p) × (byteOf p ≤ length text) × (p ≡ past (d .location) (take (byteOf p - byteOf (d .location)) (ahead text d)))
 
   -- the later decoder is not foreign either, and its line's start is right
-  pub native : Foreign text (call .decoder) → ⊥
+  pub never-foreign : Foreign text (call .decoder) → ⊥
   pub start : call .decoder .location .start .0 + call .decoder .location .column .0 ≡ call .decoder .location .byte .0
 
 pub calls : (text : List ℕ) (d : XbmStreamDecoder) → (Foreign text d → ⊥) → Called text d (stepOf text d)
@@ -111,7 +111,7 @@ calls t d h = record {
   n7 = CallRows.row-7 t d h;
   n8 = CallRows.row-8 t d h;
   there = CallRows.there t d h;
-  native = CallRows.native t d h;
+  never-foreign = CallRows.never-foreign t d h;
   start = CallRows.aligned t d h;
 }
 

@@ -61,14 +61,14 @@ module _ (t : List ℕ) (p : TextLocation) where
   pub foreign-byte : length t < p .byte .0 → isForeign t p ≡ true
   foreign-byte h = rw (lt-ltb _ _ h)
 
-  made-up : (p .start .0 + p .column .0 ≡ p .byte .0 → ⊥) → isForeign t p ≡ true
-  made-up h = rw (ne-eqb (p .start .0 + p .column .0) (p .byte .0) h, pick-same)
+  not-adding : (p .start .0 + p .column .0 ≡ p .byte .0 → ⊥) → isForeign t p ≡ true
+  not-adding h = rw (ne-eqb (p .start .0 + p .column .0) (p .byte .0) h, pick-same)
 
   pub foreign-column : p .byte .0 < p .column .0 → isForeign t p ≡ true
-  foreign-column h = made-up (λ e. omega arith)
+  foreign-column h = not-adding (λ e. omega arith)
 
   pub foreign-start : (p .start .0 ≡ p .byte .0 - p .column .0 → ⊥) → isForeign t p ≡ true
-  foreign-start h = made-up (λ e. h (omega arith))
+  foreign-start h = not-adding (λ e. h (omega arith))
 
   pub foreign-line : p .byte .0 + 1 < p .line .0 → isForeign t p ≡ true
   foreign-line h = rw (lt-ltb (p .byte .0 + 1) (p .line .0) h, pick-same, pick-same)
