@@ -1,8 +1,7 @@
 //! A stand-in for the proved reader, made of the original, with faults planted at will.
 //! It only tests the comparison: no result of it says anything of the proved reader.
 
-use crate::comparison::Call;
-use crate::interface::{Interface, StreamDecoder};
+use crate::interface::{entry, Call, Interface, StreamDecoder, TextLocation, ENTRIES};
 use oracle::{Decoder, Header, Place, Refusal};
 use std::cell::Cell;
 use std::slice;
@@ -32,8 +31,8 @@ pub enum Fault {
     ForeignMissed,
     /// The hotspot of a refused image is still told.
     Hotspot,
-    /// The last entry of the report is left as it was.
-    Report,
+    /// An entry of the report is left as it was where it is to be 0.
+    Unwritten(usize),
     /// Highest bit first.
     Bits,
     /// The largest width is taken for an integer that does not fit.
@@ -94,7 +93,7 @@ impl Fault {
         Fault::ForeignChanged,
         Fault::ForeignMissed,
         Fault::Hotspot,
-        Fault::Report,
+        Fault::Unwritten(entry::DATA_BYTE),
         Fault::Bits,
         Fault::WidestRefused,
         Fault::LongText,
@@ -203,8 +202,16 @@ unsafe fn part_mut<'a>(pointer: *mut u8, length: usize) -> &'a mut [u8] {
     slice::from_raw_parts_mut(pointer, length)
 }
 
-fn tell(report: &mut [u64], place: Place) {
+/// The place at which a call arrives that began at another: the start moves where the line did.
+fn located(from: TextLocation, place: Place) -> TextLocation {
+    let Place { byte, line, column } = place;
+    let start = if line > from.line { byte - column } else { from.start };
+    TextLocation { byte, line, column, start }
+}
+
+fn tell(report: &mut [u64], place: TextLocation) {
     report[..3].copy_from_slice(&[place.byte, place.line, place.column]);
+    report[8] = place.start;
 }
 
 fn tell_header(report: &mut [u64], hotspot: &mut [i32], header: Header) {
@@ -216,8 +223,9 @@ fn tell_header(report: &mut [u64], hotspot: &mut [i32], header: Header) {
     }
 }
 
-fn refuse(report: &mut [u64], text: &[u8], refusal: Refusal) -> u32 {
-    if let Some(mut place) = refusal.place {
+fn refuse(report: &mut [u64], text: &[u8], from: TextLocation, refusal: Refusal) -> u32 {
+    if let Some(place) = refusal.place {
+        let mut place = located(from, place);
         if planted(Fault::Column) && refusal.number == 7 {
             place.column += 1;
         }
@@ -232,9 +240,12 @@ fn refuse(report: &mut [u64], text: &[u8], refusal: Refusal) -> u32 {
 
 /// Report and hotspot, all entries 0.
 unsafe fn cleared<'a>(report: *mut u64, hotspot: *mut i32) -> (&'a mut [u64], &'a mut [i32]) {
-    let entries = if planted(Fault::Report) { 7 } else { 8 };
-    let report = slice::from_raw_parts_mut(report, 8);
-    report[..entries].fill(0);
+    let report = slice::from_raw_parts_mut(report, ENTRIES);
+    for (i, entry) in report.iter_mut().enumerate() {
+        if !planted(Fault::Unwritten(i)) {
+            *entry = 0;
+        }
+    }
     let hotspot = slice::from_raw_parts_mut(hotspot, 2);
     hotspot.fill(0);
     (report, hotspot)
@@ -250,7 +261,7 @@ unsafe extern "C" fn read_header(
 ) -> u32 {
     const CALL: Call = Call::ReadHeader;
     stray(CALL, Thing::Name, name, name_len);
-    stray(CALL, Thing::Report, report, 8);
+    stray(CALL, Thing::Report, report, ENTRIES);
     stray(CALL, Thing::Hotspot, hotspot, 2);
     let (text, _changing) = text_part(CALL, text, text_len);
     let name = part_mut(name, name_len);
@@ -261,7 +272,7 @@ unsafe extern "C" fn read_header(
             if planted(Fault::WidestRefused) && read.header.width == u32::MAX {
                 return 11;
             }
-            tell(report, read.place);
+            tell(report, located(TextLocation::START, read.place));
             tell_header(report, hotspot, read.header);
             report[5] = read.name_length as u64;
             if planted(Fault::LongName) && read.name_length > 270 {
@@ -277,7 +288,7 @@ unsafe extern "C" fn read_header(
             if planted(Fault::NameByte) && refusal.place.is_some_and(|p| p.byte == 264) {
                 *name.last_mut().unwrap() = last.unwrap();
             }
-            refuse(report, text, refusal)
+            refuse(report, text, TextLocation::START, refusal)
         }
     }
 }
@@ -290,7 +301,7 @@ unsafe extern "C" fn next_byte(
 ) -> u32 {
     const CALL: Call = Call::NextByte;
     stray(CALL, Thing::Decoder, decoder, 1);
-    stray(CALL, Thing::Report, report, 8);
+    stray(CALL, Thing::Report, report, ENTRIES);
     let (text, _changing) = text_part(CALL, text, text_len);
     let decoder = &mut *decoder;
     let (report, _) = cleared(report, [0; 2].as_mut_ptr());
@@ -302,26 +313,34 @@ unsafe extern "C" fn next_byte(
         || current_position > data
         || location.byte > text_len as u64
         || past_column
-        || location.line > location.byte + 1;
+        || location.line > location.byte + 1
+        || foreign_start(location);
     if foreign {
         if planted(Fault::ForeignChanged) {
             decoder.current_position = 0;
         }
         return 9;
     }
-    let mut original = Decoder::lent(text, width, height, current_position, location);
+    let mut original = Decoder::lent(text, width, height, current_position, location.place());
     let read = original.next_byte();
     let kept = planted(Fault::Position) && read.is_err();
     decoder.current_position = if kept { current_position } else { original.position() };
-    decoder.location = original.place();
+    let later = located(location, original.place());
+    decoder.location = later;
     match read {
         Ok(byte) => {
-            tell(report, decoder.location);
+            tell(report, later);
             report[7] = byte.map_or(256, u64::from);
             0
         }
-        Err(refusal) => refuse(report, text, refusal),
+        Err(refusal) => refuse(report, text, location, refusal),
     }
+}
+
+/// Whether the start is not the byte less the column, by numbers that wrap around.
+fn foreign_start(location: TextLocation) -> bool {
+    let TextLocation { byte, column, start, .. } = location;
+    start != byte.wrapping_sub(column)
 }
 
 unsafe extern "C" fn read_image(
@@ -337,7 +356,7 @@ unsafe extern "C" fn read_image(
     const CALL: Call = Call::ReadImage;
     stray(CALL, Thing::Name, name, name_len);
     stray(CALL, Thing::Pixels, pixels, pixels_len);
-    stray(CALL, Thing::Report, report, 8);
+    stray(CALL, Thing::Report, report, ENTRIES);
     stray(CALL, Thing::Hotspot, hotspot, 2);
     let (text, _changing) = text_part(CALL, text, text_len);
     let name = part_mut(name, name_len);
@@ -371,7 +390,7 @@ unsafe extern "C" fn read_image(
             {
                 hotspot.copy_from_slice(&[x, y]);
             }
-            refuse(report, text, refusal)
+            refuse(report, text, TextLocation::START, refusal)
         }
     }
 }
