@@ -49,10 +49,46 @@ pub enum Fault {
     Tabs,
     /// The byte after the text is read too.
     Overread,
+    /// A newline does not move the start.
+    StartKept,
+    /// The start counts the bytes before the newline, not the newline too.
+    StartEarly,
+    /// The start counts from where the call began.
+    StartOfCall,
+    /// The start is looked up in the text, whatever the decoder has.
+    StartLookedUp,
+    /// The report tells no start.
+    StartUntold,
+    /// A refused data byte or trailer tells the start from before the call.
+    StartStale,
+    /// An accepted image tells the start that its header told.
+    StartWithoutPlace,
+    /// The decoder's start becomes 0.
+    StartLost,
+    /// The decoder's start is left as it was.
+    StartLeft,
+    /// The report's last entry tells the start too.
+    Reserved,
+    /// Some starts, or all, are not seen as foreign.
+    ForeignStart(Unseen),
+    /// A foreign decoder's start is put right.
+    ForeignStartChanged,
     /// The call changes its text.
     TextChanged(Call),
     /// The call writes a byte just before or just past something that it is lent.
     Stray(Call, Thing, Side),
+}
+
+/// Foreign starts.
+#[derive(Clone, Copy, Debug, PartialEq, Eq)]
+pub enum Unseen {
+    All,
+    UpToByte,
+    AboveByte,
+    Zero,
+    Largest,
+    OneTooFew,
+    OneTooMany,
 }
 
 /// What a call is lent.
@@ -102,6 +138,43 @@ impl Fault {
         Fault::LongName,
         Fault::Tabs,
         Fault::Overread,
+    ];
+
+    /// Those of the starts and of the entry that is kept free, each with what is to be said of it.
+    pub const STARTS: [(Fault, &str); 13] = [
+        (Fault::StartKept, "the report has start 0, but the line starts at 37"),
+        (Fault::StartEarly, "the report has start 36, but the line starts at 37"),
+        (Fault::StartOfCall, "but the line starts at"),
+        (Fault::StartLookedUp, "but the line starts at"),
+        (Fault::StartUntold, "the report has start 0, but the line starts at 37"),
+        (Fault::StartStale, "the report has start"),
+        (Fault::StartWithoutPlace, "the report has start 37, but no place is to be told"),
+        (Fault::StartLost, "the decoder has start 0, but the line starts at"),
+        (Fault::StartLeft, "the decoder has start"),
+        (Fault::Unwritten(entry::START), "but no place is to be told"),
+        (Fault::Unwritten(entry::RESERVED), "the report's entry 9 is"),
+        (Fault::Reserved, "the report's entry 9 is 37, not 0"),
+        (Fault::ForeignStartChanged, "the decoder has start 0, but"),
+    ];
+
+    /// Those of the starts that a lent decoder alone shows.
+    pub const LENT_STARTS: [Fault; 5] = [
+        Fault::StartOfCall,
+        Fault::StartLookedUp,
+        Fault::StartStale,
+        Fault::StartLost,
+        Fault::StartLeft,
+    ];
+
+    /// Those that take a foreign start.
+    pub const FOREIGN_STARTS: [Fault; 7] = [
+        Fault::ForeignStart(Unseen::All),
+        Fault::ForeignStart(Unseen::UpToByte),
+        Fault::ForeignStart(Unseen::AboveByte),
+        Fault::ForeignStart(Unseen::Zero),
+        Fault::ForeignStart(Unseen::Largest),
+        Fault::ForeignStart(Unseen::OneTooFew),
+        Fault::ForeignStart(Unseen::OneTooMany),
     ];
 
     /// Those that write where nothing may be written, each with what is to be said of it.
@@ -203,15 +276,34 @@ unsafe fn part_mut<'a>(pointer: *mut u8, length: usize) -> &'a mut [u8] {
 }
 
 /// The place at which a call arrives that began at another: the start moves where the line did.
-fn located(from: TextLocation, place: Place) -> TextLocation {
+fn located(text: &[u8], from: TextLocation, place: Place) -> TextLocation {
     let Place { byte, line, column } = place;
-    let start = if line > from.line { byte - column } else { from.start };
+    let moved = line > from.line;
+    let mut start = if moved { byte - column } else { from.start };
+    if planted(Fault::StartKept) {
+        start = from.start;
+    }
+    if planted(Fault::StartEarly) && moved {
+        start -= 1;
+    }
+    if planted(Fault::StartOfCall) && moved {
+        start -= from.byte;
+    }
+    if planted(Fault::StartLookedUp) {
+        let newline = text[..byte as usize].iter().rposition(|&b| b == b'\n');
+        start = newline.map_or(0, |at| at as u64 + 1);
+    }
     TextLocation { byte, line, column, start }
 }
 
 fn tell(report: &mut [u64], place: TextLocation) {
     report[..3].copy_from_slice(&[place.byte, place.line, place.column]);
-    report[8] = place.start;
+    if !planted(Fault::StartUntold) {
+        report[8] = place.start;
+    }
+    if planted(Fault::Reserved) {
+        report[9] = place.start;
+    }
 }
 
 fn tell_header(report: &mut [u64], hotspot: &mut [i32], header: Header) {
@@ -225,13 +317,16 @@ fn tell_header(report: &mut [u64], hotspot: &mut [i32], header: Header) {
 
 fn refuse(report: &mut [u64], text: &[u8], from: TextLocation, refusal: Refusal) -> u32 {
     if let Some(place) = refusal.place {
-        let mut place = located(from, place);
+        let mut place = located(text, from, place);
         if planted(Fault::Column) && refusal.number == 7 {
             place.column += 1;
         }
         let last = place.byte.checked_sub(1).map(|at| text[at as usize]);
         if planted(Fault::Line) && last == Some(b'\n') && refusal.number == 2 {
             place.line -= 1;
+        }
+        if planted(Fault::StartStale) && refusal.number >= 6 {
+            place.start = from.start;
         }
         tell(report, place);
     }
@@ -272,7 +367,7 @@ unsafe extern "C" fn read_header(
             if planted(Fault::WidestRefused) && read.header.width == u32::MAX {
                 return 11;
             }
-            tell(report, located(TextLocation::START, read.place));
+            tell(report, located(text, TextLocation::START, read.place));
             tell_header(report, hotspot, read.header);
             report[5] = read.name_length as u64;
             if planted(Fault::LongName) && read.name_length > 270 {
@@ -319,14 +414,23 @@ unsafe extern "C" fn next_byte(
         if planted(Fault::ForeignChanged) {
             decoder.current_position = 0;
         }
+        if planted(Fault::ForeignStartChanged) {
+            decoder.location.start = location.byte.wrapping_sub(location.column);
+        }
         return 9;
     }
     let mut original = Decoder::lent(text, width, height, current_position, location.place());
     let read = original.next_byte();
     let kept = planted(Fault::Position) && read.is_err();
     decoder.current_position = if kept { current_position } else { original.position() };
-    let later = located(location, original.place());
+    let later = located(text, location, original.place());
     decoder.location = later;
+    if planted(Fault::StartLost) {
+        decoder.location.start = 0;
+    }
+    if planted(Fault::StartLeft) {
+        decoder.location.start = location.start;
+    }
     match read {
         Ok(byte) => {
             tell(report, later);
@@ -340,7 +444,20 @@ unsafe extern "C" fn next_byte(
 /// Whether the start is not the byte less the column, by numbers that wrap around.
 fn foreign_start(location: TextLocation) -> bool {
     let TextLocation { byte, column, start, .. } = location;
-    start != byte.wrapping_sub(column)
+    let right = byte.wrapping_sub(column);
+    let unseen = match PLANTED.get() {
+        Some(Fault::ForeignStart(unseen)) => match unseen {
+            Unseen::All => true,
+            Unseen::UpToByte => start <= byte,
+            Unseen::AboveByte => start > byte,
+            Unseen::Zero => start == 0,
+            Unseen::Largest => start == u64::MAX,
+            Unseen::OneTooFew => start == right.wrapping_sub(1),
+            Unseen::OneTooMany => start == right.wrapping_add(1),
+        },
+        _ => false,
+    };
+    start != right && !unseen
 }
 
 unsafe extern "C" fn read_image(
@@ -379,6 +496,9 @@ unsafe extern "C" fn read_image(
             let width = header.width as usize;
             spoil(text, pixels, &lent, width);
             tell_header(report, hotspot, header);
+            if let (Ok(read), true) = (read, planted(Fault::StartWithoutPlace)) {
+                report[8] = read.place.byte - read.place.column;
+            }
             0
         }
         Err(refusal) => {

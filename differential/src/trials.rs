@@ -673,6 +673,33 @@ mod tests {
     }
 
     #[test]
+    fn faults_in_starts_are_caught_and_named() {
+        let foreign = Fault::FOREIGN_STARTS.map(|fault| (fault, "expected: result 9"));
+        for (fault, said) in Fault::STARTS.into_iter().chain(foreign) {
+            let difference = difference(fault);
+            assert!(difference.contains(said), "{fault:?}: no {said:?} in\n{difference}");
+        }
+    }
+
+    /// Lent by their family, and drawn.
+    #[test]
+    fn starts_of_each_kind_are_lent() {
+        for fault in Fault::LENT_STARTS {
+            let interface = mock::with_fault(fault);
+            assert!(trials(&interface).lent_starts().is_err(), "{fault:?} passed unseen");
+        }
+        for fault in Fault::FOREIGN_STARTS {
+            let interface = mock::with_fault(fault);
+            assert!(trials(&interface).foreign_starts().is_err(), "{fault:?} passed unseen");
+        }
+        for fault in Fault::LENT_STARTS.into_iter().chain(Fault::FOREIGN_STARTS) {
+            let interface = mock::with_fault(fault);
+            let mut trials = trials(&interface);
+            assert!((0..TEXTS).any(|_| trials.drawn().is_err()), "{fault:?} not drawn");
+        }
+    }
+
+    #[test]
     fn writes_beside_what_is_lent_are_caught_and_named() {
         for (fault, said) in Fault::writes() {
             let difference = difference(fault);
