@@ -53,6 +53,8 @@ pub enum Fault {
     StartKept,
     /// The start counts the bytes before the newline, not the newline too.
     StartEarly,
+    /// A call begins a line.
+    StartAtCall,
     /// The start counts from where the call began.
     StartOfCall,
     /// The start is looked up in the text, whatever the decoder has.
@@ -79,12 +81,13 @@ pub enum Fault {
     Stray(Call, Thing, Side),
 }
 
-/// Foreign starts.
+/// Foreign starts that a fault takes. The last four leave out what is close to another of them.
 #[derive(Clone, Copy, Debug, PartialEq, Eq)]
 pub enum Unseen {
     All,
     UpToByte,
     AboveByte,
+    /// In column 0.
     Zero,
     Largest,
     OneTooFew,
@@ -141,9 +144,10 @@ impl Fault {
     ];
 
     /// Those of the starts and of the entry that is kept free, each with what is to be said of it.
-    pub const STARTS: [(Fault, &str); 13] = [
+    pub const STARTS: [(Fault, &str); 14] = [
         (Fault::StartKept, "the report has start 0, but the line starts at 37"),
         (Fault::StartEarly, "the report has start 36, but the line starts at 37"),
+        (Fault::StartAtCall, "but the line starts at"),
         (Fault::StartOfCall, "but the line starts at"),
         (Fault::StartLookedUp, "but the line starts at"),
         (Fault::StartUntold, "the report has start 0, but the line starts at 37"),
@@ -158,7 +162,8 @@ impl Fault {
     ];
 
     /// Those of the starts that a lent decoder alone shows.
-    pub const LENT_STARTS: [Fault; 5] = [
+    pub const LENT_STARTS: [Fault; 6] = [
+        Fault::StartAtCall,
         Fault::StartOfCall,
         Fault::StartLookedUp,
         Fault::StartStale,
@@ -285,6 +290,9 @@ fn located(text: &[u8], from: TextLocation, place: Place) -> TextLocation {
     }
     if planted(Fault::StartEarly) && moved {
         start -= 1;
+    }
+    if planted(Fault::StartAtCall) && !moved {
+        start = from.byte;
     }
     if planted(Fault::StartOfCall) && moved {
         start -= from.byte;
@@ -450,10 +458,10 @@ fn foreign_start(location: TextLocation) -> bool {
             Unseen::All => true,
             Unseen::UpToByte => start <= byte,
             Unseen::AboveByte => start > byte,
-            Unseen::Zero => start == 0,
-            Unseen::Largest => start == u64::MAX,
-            Unseen::OneTooFew => start == right.wrapping_sub(1),
-            Unseen::OneTooMany => start == right.wrapping_add(1),
+            Unseen::Zero => start == 0 && column == 0 && byte > 1,
+            Unseen::Largest => start == u64::MAX && right > 0,
+            Unseen::OneTooFew => right.checked_sub(1) == Some(start) && column > 0,
+            Unseen::OneTooMany => right.checked_add(1) == Some(start) && column > 1,
         },
         _ => false,
     };
