@@ -2,7 +2,7 @@
 use Prim.Native.Nat.{ℕ, suc, _+_, _-_, _%_, _^_, _≤_, _<_, min}
 use native.Mathlib.Nat.{le-of-lt}
 use native.Mathlib.Omega.{arith}
-use mathlib.Core.Path.{_≡_, refl, sym, _∙_}
+use mathlib.Core.Path.{_≡_, refl, sym, ap, _∙_}
 use mathlib.Core.Logic.{_↔_}
 use mathlib.Core.List.{List, [], _∷_}
 use mathlib.Core.Bool.{Bool, true, false}
@@ -10,8 +10,8 @@ use lib.ListN.{length, drop, length-drop, drop-of-length-le}
 use lib.Dec.{leb, ltb, eqb}
 use borrow.Author.Tests.{le-leb, lt-leb, leb-true, leb-false, lt-ltb, le-ltb, ltb-true, ltb-false, eq-eqb, ne-eqb, eqb-true, eqb-false}
 use Rattle.text.specs.declared.TextLocation.{TextLocation}
-use Rattle.text.specs.Place.{pick, byteOf, placeOf, start, nowhere, after, isForeign, hasLeft, alongLine, pastLine, rest, past}
-use Rattle.text.specs.Rest.{Walk, here, on, Reach, reach-inside, walk-sound, Sound, newlines}
+use Rattle.text.specs.Place.{pick, byteOf, placeOf, start, nowhere, after, isForeign, hasLeft, alongLine, pastLine, pastByte, rest, past}
+use Rattle.text.specs.Rest.{nil-cons, Walk, here, on, Reach, reach-inside, walk-sound, Sound, newlines}
 
 pub pick-same {ℓ} : {A : Type ℓ} (t : Bool) (a : A) → pick t a a ≡ a
 pick-same true a = refl
@@ -86,10 +86,36 @@ module _ (t : List ℕ) (p : TextLocation) where
       go false true true hx hz e = rw (lt-leb (p .line .0) (p .byte .0 + 1) (ltb-true _ _ hz))
       go false true false hx hz e = let k : _≡_ {A = ℕ} 0 1 = cc in absurd (omega arith)
 
+  -- where something remains the place is sound
+  pub rest-sound : {b : ℕ} {l : List ℕ} → rest t p ≡ b ∷ l → Sound p
+  unfolding rest
+  rest-sound = go (eqb (p .start .0 + p .column .0) (p .byte .0)) (leb (p .line .0) (p .byte .0 + 1)) refl refl
+    where
+      go : (x y : Bool) → eqb (p .start .0 + p .column .0) (p .byte .0) ≡ x → leb (p .line .0) (p .byte .0 + 1) ≡ y
+          → {b : ℕ} {l : List ℕ} → pick x (pick y (drop (p .byte .0) t) []) [] ≡ b ∷ l → Sound p
+      go true true hx hy e = record { start = eqb-true _ _ hx; line = leb-true _ _ hy }
+      go true false hx hy e = absurd (nil-cons e)
+      go false y hx hy e = absurd (nil-cons e)
+
   -- at a sound place the text from its byte on remains
   pub sound-rest : Sound p → rest t p ≡ drop (byteOf p) t
   unfolding rest
   sound-rest s = rw (eq-eqb _ _ (s .start), le-leb _ _ (s .line))
+
+  -- so where something remains the byte is in the text
+  pub rest-inside : {b : ℕ} {l : List ℕ} → rest t p ≡ b ∷ l → byteOf p < length t
+  rest-inside e = omega (arith, length-drop (byteOf p) t, ap length (sym (sound-rest (rest-sound e)) ∙ e))
+
+-- a place that is reached, if only by one byte, is sound
+pub reach-sound : (t : List ℕ) (p : TextLocation) {q : TextLocation} → Reach t p q → byteOf p < byteOf q → Sound q
+reach-sound t = go
+  where
+    from : (l : List ℕ) (p : TextLocation) {q : TextLocation} → rest t p ≡ l → Walk l p q → byteOf p < byteOf q → Sound q
+    from [] p e here h = absurd (omega arith)
+    from (b ∷ l) p e w h = walk-sound w (rest-sound t p e)
+
+    go : (p : TextLocation) {q : TextLocation} → Reach t p q → byteOf p < byteOf q → Sound q
+    go p = from (rest t p) p refl
 
 -- no place that is reached from the start is foreign
 pub foreign-unreached : (t : List ℕ) (p : TextLocation) → Reach t start p → isForeign t p ≡ false
@@ -175,3 +201,10 @@ module _ (p : TextLocation) (s : Sound p) where
 
   pub line-after : byteOf p + 2 < 2 ^ 64 → pastLine p 0 ≡ after 10 p
   line-after k = line-past p [] s refl (omega arith)
+
+  pub byte-after : (b : ℕ) → byteOf p + 2 < 2 ^ 64 → pastByte p b ≡ after b p
+  byte-after b k = go (eqb b 10) refl
+    where
+      go : (x : Bool) → eqb b 10 ≡ x → pick x (pastLine p 0) (alongLine p 1) ≡ after b p
+      go true e = line-after k ∙ ap (λ (c : ℕ). after c p) (sym (eqb-true b 10 e))
+      go false e = along-after b e (omega arith)

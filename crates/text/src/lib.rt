@@ -1,7 +1,7 @@
 // A place in a text, and taking or looking at one byte there: the core of the text reader, by value.
 ghost use mathlib.Core.Path.{_≡_};
 ghost use Prim.Native.Nat.{_<_, _^_};
-ghost use Rattle.text.specs.Place.{byteOf, atLineStart, start, nowhere, isSound, isForeign, hasLeft, alongLine, pastLine, tookAt, peekedAt};
+ghost use Rattle.text.specs.Place.{byteOf, atLineStart, start, nowhere, isSound, isForeign, reachesTo, hasLeft, alongLine, pastLine, pastByte, tookAt, peekedAt};
 use std::num::wrapping_add_u64;
 
 // How many bytes were taken.
@@ -75,10 +75,10 @@ fn is_sound(place: TextLocation) -> bool
     if place.byte.0 < place.column.0 {
         return false;
     }
-    if place.byte.0 - place.column.0 != place.start.0 {
+    if place.byte.0 + 1 < place.line.0 {
         return false;
     }
-    place.line.0 <= place.byte.0 + 1
+    place.byte.0 - place.column.0 == place.start.0
 }
 
 // Whether the text has no such place: a byte past its end, a start that is not the byte less the column, or a line that so few bytes do not reach.
@@ -91,18 +91,25 @@ pub fn is_foreign_place(text: &[u8], place: TextLocation) -> bool
     !is_sound(place)
 }
 
-// Whether the place is not foreign and n bytes or more stand from it on.
-pub fn has_left(text: &[u8], place: TextLocation, n: u64) -> bool
-    ensures { λ r. ⌜ r ≡ hasLeft (now (text .entry)) place n ⌝ }
+// Whether the text has n bytes or more from the place's byte on, whatever its other numbers.
+pub fn reaches(text: &[u8], place: TextLocation, n: u64) -> bool
+    ensures { λ r. ⌜ r ≡ reachesTo (now (text .entry)) place n ⌝ }
 {
     let size = text.len() as u64;
     if size < n {
         return false;
     }
-    if size - n < place.byte.0 {
-        return false;
+    place.byte.0 <= size - n
+}
+
+// Whether the place is not foreign and n bytes or more stand from it on.
+pub fn has_left(text: &[u8], place: TextLocation, n: u64) -> bool
+    ensures { λ r. ⌜ r ≡ hasLeft (now (text .entry)) place n ⌝ }
+{
+    if reaches(text, place, n) {
+        return is_sound(place);
     }
-    is_sound(place)
+    false
 }
 
 // The place n bytes on within a line. Past 2 ^ 64 bytes, which no text has, the sums wrap; so below.
@@ -125,7 +132,18 @@ pub fn past_line(place: TextLocation, n: u64) -> TextLocation
     at_line_start(wrapping_add_u64(end, 1), wrapping_add_u64(place.line.0, 1))
 }
 
-// The next byte at a place, and the place after it. A foreign place is as the end.
+// The place past one byte, which is b.
+pub fn past_byte(place: TextLocation, b: u8) -> TextLocation
+    ensures { λ r. ⌜ r ≡ pastByte place b ⌝ }
+{
+    if b == b'\n' {
+        return past_line(place, 0);
+    }
+    along(place, 1)
+}
+
+// The next byte at a place, and the place after it. A foreign place is as the end. The newline is tested here and not by `past_byte`,
+// so that where the byte is known to be another the test is gone.
 pub fn take(text: &[u8], place: TextLocation) -> Took
     ensures { λ r. ⌜ r ≡ tookAt (now (text .entry)) place ⌝ }
 {
