@@ -96,7 +96,6 @@ pub record Called (text : List ℕ) (d : XbmStreamDecoder) (call : Step) : Type 
   -- the place of a refusal is past some of these bytes
   pub there : (c : ℕ) (p : TextLocation) → call .answer ≡ refused c p
       → (byteOf (d .location) ≤ byteOf p) × (byteOf p ≤ length text) × (p ≡ past (d .location) (take (byteOf p - byteOf (d .location)) (ahead text d)))
-
   -- the later decoder is not foreign either, and its line's start is right
   pub never-foreign : Foreign text (call .decoder) → ⊥
   pub start : call .decoder .location .start .0 + call .decoder .location .column .0 ≡ call .decoder .location .byte .0
