@@ -7,6 +7,7 @@ use mathlib.Core.Option.{Option, none, some}
 use mathlib.Core.List.{List, _++_}
 use lib.ListN.{length, take, drop, getElem?}
 use lib.IntN.{ℤ}
+use Rattle.text.specs.declared.TextLocation.{TextLocation}
 use Rattle.text.specs.Ascii.{ascii}
 use Rattle.text.specs.Outcome.{Outcome, accepted, refused, unplaced}
 use Rattle.header.specs.Header.{Head}
@@ -86,6 +87,10 @@ Opening = Star Skipped · Lit "#define" · Gap
 -- a buffer that begins with w and then is as lent
 abbrev pub over : List ℕ → List ℕ → List ℕ
 over w lent = w ++ drop (length w) lent
+
+-- start and column of a place make up its byte
+abbrev pub Aligned : TextLocation → Type 0
+Aligned p = p .start .0 + p .column .0 ≡ p .byte .0
 
 -- ---- what the program prints
 

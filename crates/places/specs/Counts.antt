@@ -87,18 +87,6 @@ starts t n h =
     let (c, s) = from-start (lineStart (take n t)) (length (take n t)) in
     (past-starts start (take n t) ∙ s, past-columns start (take n t) ∙ c ∙ ap (λ (k : ℕ). k - lineStart (take n t)) (length-take-le n t h))
 
--- the column: no newline starts it again
-past-column : (p : TextLocation) (l : List ℕ) → All (λ b. not (eqb b 10)) l → past p l .column .0 ≡ p .column .0 + length l
-unfolding after
-past-column p [] h = omega arith
-past-column p (b ∷ l) (h, k) = past-column (after b p) l k ∙ rw (not-true (eqb b 10) h) (omega arith)
-
--- nor does the line's start move
-past-start : (p : TextLocation) (l : List ℕ) → All (λ b. not (eqb b 10)) l → past p l .start .0 ≡ p .start .0
-unfolding after
-past-start p [] h = refl
-past-start p (b ∷ l) (h, k) = past-start (after b p) l k ∙ rw (not-true (eqb b 10) h)
-
 -- the bytes up to the last newline, and those after it
 abbrev Split : List ℕ → Type 0
 Split w = (u : List ℕ) × (l : List ℕ) × (w ≡ u ++ l) × ((u ≡ []) ⊎ ((v : List ℕ) × (u ≡ v ++ ascii "\n"))) × All (λ b. not (eqb b 10)) l
@@ -112,22 +100,35 @@ split (b ∷ w) = let (u, l, q, e, a) = split w in go (eqb b 10) refl u l q e a
     go true z u l q (inl e) a = (b ∷ [], l, ap (λ (x : List ℕ). b ∷ x) (q ∙ ap (λ (x : List ℕ). x ++ l) e), inr ([], ap (λ (x : ℕ). x ∷ []) (eqb-true b 10 z)), a)
     go false z u l q (inl e) a = ([], b ∷ l, ap (λ (x : List ℕ). b ∷ x) (q ∙ ap (λ (x : List ℕ). x ++ l) e), inl refl, (ap not z, a))
 
+-- bytes after the last newline have no line start; those up to it have it at their end
+plain-start : (l : List ℕ) → All (λ b. not (eqb b 10)) l → lineStart l ≡ 0
+plain-start [] h = refl
+plain-start (b ∷ l) (h, k) = rw (not-true (eqb b 10) h, plain-start l k)
+
+behind-start : (v l : List ℕ) → All (λ b. not (eqb b 10)) l → lineStart ((v ++ ascii "\n") ++ l) ≡ suc (length v)
+behind-start [] l h = ap (sooner true) (plain-start l h)
+behind-start (b ∷ v) l h = ap (sooner (eqb b 10)) (behind-start v l h)
+
+whole-start : (u l : List ℕ) → (u ≡ []) ⊎ ((v : List ℕ) × (u ≡ v ++ ascii "\n")) → All (λ b. not (eqb b 10)) l → lineStart (u ++ l) ≡ length u
+whole-start u l (inl e) a = rw e (plain-start l a)
+whole-start u l (inr (v, e)) a = rw e (behind-start v l a ∙ omega (arith, length-append v (ascii "\n")))
+
 counted : (w : List ℕ) → Counted w (past start w)
-counted w = let (u, l, q, e, a) = split w in record {
-  whole = u;
-  begun = l;
-  split = q;
-  lines = e;
-  plain = a;
-  byte = past-byte start w ∙ omega arith;
-  line = past-line start w (omega arith);
-  column = ap (λ (x : List ℕ). past start x .column .0) q ∙ ap (λ (p : TextLocation). p .column .0) (past-append start u l) ∙ past-column (past start u) l a ∙ ap (λ (n : ℕ). n + length l) (fresh u e .0) ∙ omega arith;
-  start = ap (λ (x : List ℕ). past start x .start .0) q ∙ ap (λ (p : TextLocation). p .start .0) (past-append start u l) ∙ past-start (past start u) l a ∙ fresh u e .1;
-}
-  where
-    fresh : (u : List ℕ) → (u ≡ []) ⊎ ((v : List ℕ) × (u ≡ v ++ ascii "\n")) → (past start u .column .0 ≡ 0) × (past start u .start .0 ≡ length u)
-    fresh u (inl e) = rw e (refl, refl)
-    fresh u (inr (v, e)) = unfold after in (rw (e, past-append start v (ascii "\n")) (refl, omega (arith, past-byte start v, length-append v (ascii "\n"))))
+counted w =
+    let (u, l, q, e, a) = split w in
+    let k : lineStart w ≡ length u = ap lineStart q ∙ whole-start u l e a in
+    let (c, s) = from-start (lineStart w) (length w) in
+    record {
+      whole = u;
+      begun = l;
+      split = q;
+      lines = e;
+      plain = a;
+      byte = past-byte start w ∙ omega arith;
+      line = past-line start w (omega arith);
+      column = past-columns start w ∙ c ∙ omega (arith, k, ap length q, length-append u l);
+      start = past-starts start w ∙ s ∙ k;
+    }
 
 pub counted-at : (w : List ℕ) {p : TextLocation} → p ≡ past start w → Counted w p
 counted-at w e = rw e (counted w)

@@ -1,8 +1,8 @@
 -- THE CLAIMS ON PLACES. To believe them, read: the grammar (Lang and Grammar), the reading that all contracts cite
--- (Reading and what it names), Terms (the words used here, and what it names), and this file. Every proof below is a
+-- (Reading and what it names, the header's among it), Terms (the words used here, and what it names), and this file. Every proof below is a
 -- citation.
 use mathlib.Core.Path.{_≡_}
-use Prim.Native.Nat.{ℕ, _+_, _-_, _≤_}
+use Prim.Native.Nat.{ℕ, _-_, _≤_}
 use mathlib.Core.List.{List, _++_}
 use lib.ListN.{length, take}
 use Rattle.text.specs.declared.TextLocation.{TextLocation}
@@ -11,7 +11,7 @@ use Rattle.text.specs.Outcome.{accepted, refused, ending-at, shown}
 use Rattle.header.specs.Header.{Head, header}
 use Rattle.image.specs.Reading.{reading}
 use Rattle.grammar.specs.Grammar.{Mask, Header}
-use Rattle.claims.specs.Terms.{headOf}
+use Rattle.claims.specs.Terms.{headOf, Aligned}
 use Rattle.places.specs.Terms.{Counted, lineStart, Onward, Looked, How}
 use Rattle.places.specs.Counts
 use Rattle.places.specs.Opening
@@ -27,7 +27,7 @@ pub record Tells (text name pixels : List ℕ) (c : ℕ) (p : TextLocation) : Ty
   -- that is: byte is a count of bytes, line of newlines, column of the bytes since the last newline, start of those up to it
   pub counted : Counted (take (byteOf p) text) p
   -- so start and column make up the byte
-  pub aligned : p .start .0 + p .column .0 ≡ p .byte .0
+  pub aligned : Aligned p
   -- no cut up to there is refused for good: a refusal of the first n bytes is at their own end
   pub early : (n : ℕ) → n ≤ byteOf p → (d : ℕ) (q : TextLocation)
       → reading (take n text) name pixels .answer ≡ refused d q → q ≡ past start (take n text)

@@ -17,6 +17,7 @@ use Rattle.header.specs.Header.{Head}
 use Rattle.image.specs.Reading.{picture, reading}
 use Rattle.grammar.specs.Bind.{past-byte}
 use Rattle.grammar.specs.Exact.{start-rest}
+use Rattle.claims.specs.Terms.{Aligned}
 use Rattle.claims.specs.Cuts.{walk-past}
 use Rattle.places.specs.Terms.{Counted, Ahead, Looked, long-symbol, no-width, long-token, Settled, How, ended, wrong, looked}
 use Rattle.places.specs.Sharp.{ends, decided, saw, Sure}
@@ -75,7 +76,7 @@ module _ (t name pixels : List ℕ) (c : ℕ) (p : TextLocation) (a : reading t 
   reached : Reach t start p
   reached = rw at-it at (picture-checks limit cells .near .reach t start)
 
-  pub aligned : p .start .0 + p .column .0 ≡ p .byte .0
+  pub aligned : Aligned p
   aligned = walk-sound reached start-sound .start
 
   pub inside : byteOf p ≤ length t

@@ -37,7 +37,7 @@ pub record Counted (taken : List ℕ) (p : TextLocation) : Type 0 where
   -- start: how many are whole lines
   pub start : p .start .0 ≡ length whole
 
--- one byte more in front, a newline or not: the start that the bytes after it have is one further on; where they have none, it is after the newline
+-- the line start of one byte more in front, a newline or not, by that of the bytes after it: one further on, or after the newline
 abbrev pub sooner : Bool → ℕ → ℕ
 sooner d (suc n) = suc (suc n)
 sooner true zero = 1

@@ -25,7 +25,7 @@ use Rattle.grammar.specs.Bind.{bind-ok, past-byte}
 use Rattle.grammar.specs.Grammar.{Loose, Closing}
 use Rattle.grammar.specs.Fits.{Any, End, Fits, fit-then}
 use Rattle.grammar.specs.Exact.{first-fits, next-fits, closing-fits, tail-fits}
-use Rattle.claims.specs.Terms.{Begun}
+use Rattle.claims.specs.Terms.{Begun, Aligned}
 use Rattle.claims.specs.Cuts.{walk-past}
 use Rattle.claims.specs.Numbers.{Numbered, item-numbered, closing-numbered, tail-numbered, trailer-numbered, placed-number}
 use Rattle.claims.specs.Steps.{Native, not-foreign, next-answer, next-decoder, last-answer}
@@ -201,5 +201,5 @@ module _ (t : List ℕ) (d : XbmStreamDecoder) (h : Foreign t d → ⊥) where
   pub never-foreign : Foreign t (stepOf t d .decoder) → ⊥
   never-foreign x = false≢true (sym (not-foreign t (stepOf t d .decoder) (still-native t d sound)) ∙ foreign-exactly t (stepOf t d .decoder) .1 x)
 
-  pub aligned : stepOf t d .decoder .location .start .0 + stepOf t d .decoder .location .column .0 ≡ stepOf t d .decoder .location .byte .0
+  pub aligned : Aligned (stepOf t d .decoder .location)
   aligned = still-native t d sound .place .start

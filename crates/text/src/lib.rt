@@ -142,8 +142,8 @@ pub fn past_byte(place: TextLocation, b: u8) -> TextLocation
     along(place, 1)
 }
 
-// The next byte at a place, and the place after it. A foreign place is as the end. The newline is tested here and not by `past_byte`,
-// so that where the byte is known to be another the test is gone.
+// The next byte at a place, and the place after it. A foreign place is as the end. The newline is tested here again and not by `past_byte`:
+// so the test stays a branch, and is gone where the byte is known.
 pub fn take(text: &[u8], place: TextLocation) -> Took
     ensures { λ r. ⌜ r ≡ tookAt (now (text .entry)) place ⌝ }
 {
