@@ -6,7 +6,7 @@
  * What the caller keeps while a call runs:
  *   - `text` can be read for `text_len` bytes; `name` and `pixels` can be read and written for their lengths.
  *     With a length of 0 the pointer is not used: it may be null.
- *   - `report` has room for eight uint64_t, `hotspot` for two int32_t, and `decoder` points to one struct. None of them
+ *   - `report` has room for ten uint64_t, `hotspot` for two int32_t, and `decoder` points to one struct. None of them
  *     may be null, and each is aligned as its type is (as every object of that type is).
  *   - No two of the lent objects overlap: text, name, pixels, report, hotspot, decoder.
  *   - No other thread writes any of them, or reads those that the call may write.
@@ -22,13 +22,15 @@
  *   21, 22 width, height is zero
  *   31 the pixel buffer's whole rows are not the picture's
  *
- * All eight entries of `report` and both of `hotspot` are written at every call:
+ * All ten entries of `report` and both of `hotspot` are written at every call:
  *   report[0], [1], [2]  the place told: byte, line, column; all 0 where none is told
  *   report[3], [4]       width, height of an accepted header or picture, else 0
  *   report[5]            the length of the name, which stands at the start of the name buffer;
  *                        0 if the header is refused
  *   report[6]            1 if an accepted header or picture has a hotspot, else 0
  *   report[7]            xbm_next_byte: the data byte, or 256 when none is left; else 0
+ *   report[8]            the place told: the count of bytes at which its line starts; 0 where none is told
+ *   report[9]            always 0, kept for later use
  *   hotspot[0], [1]      x, y of the hotspot, or 0, 0 where report[6] is 0
  */
 #ifndef XBM_H
@@ -41,11 +43,13 @@
 extern "C" {
 #endif
 
-/* A place in a text: the count of bytes taken, the line from 1, the column from 0. */
+/* A place in a text: the count of bytes taken, the line from 1, the column from 0, and the count of bytes at which
+ * its line starts. That count is 0 at first and, after a newline, the count up to and including it: byte - column. */
 typedef struct XbmTextLocation {
     uint64_t byte;
     uint64_t line;
     uint64_t column;
+    uint64_t start;
 } XbmTextLocation;
 
 /* A decoder: the sides, how many data bytes were asked for, the place in the text. It does not hold the text. */
@@ -61,15 +65,17 @@ typedef struct XbmStreamDecoder {
  * `name_len` is the longest symbol that passes. An accepted header tells the place after the brace. */
 uint32_t xbm_read_header(const uint8_t *text, size_t text_len,
                          uint8_t *name, size_t name_len,
-                         uint64_t report[8], int32_t hotspot[2]);
+                         uint64_t report[10], int32_t hotspot[2]);
 
 /* Gives the next data byte of the text, or reads the trailer after the last one, and changes the decoder.
  * A data byte is counted before it is read, so a refused call has spent it and later calls go on from the
- * place told. To start, fill the decoder from xbm_read_header's report, with current_position 0.
- * A foreign decoder gets 9 and stays unchanged. */
+ * place told. To start, fill the decoder from the report of an accepted xbm_read_header: width from report[3], height
+ * from [4], current_position 0, and in location byte from [0], line from [1], column from [2], start from [8].
+ * A foreign decoder gets 9 and stays unchanged: one with numbers that no header of this text gave, such as a start
+ * that is not byte - column. */
 uint32_t xbm_next_byte(const uint8_t *text, size_t text_len,
                        XbmStreamDecoder *decoder,
-                       uint64_t report[8]);
+                       uint64_t report[10]);
 
 /* Reads the whole picture: the header, then `pixels_len / width` rows of `width` cells; a set bit gives 0, any other 255.
  * A refused header touches no cell. A later refusal leaves the cells of every data byte read so far, where they fall
@@ -78,7 +84,7 @@ uint32_t xbm_next_byte(const uint8_t *text, size_t text_len,
 uint32_t xbm_read_image(const uint8_t *text, size_t text_len,
                         uint8_t *name, size_t name_len,
                         uint8_t *pixels, size_t pixels_len,
-                        uint64_t report[8], int32_t hotspot[2]);
+                        uint64_t report[10], int32_t hotspot[2]);
 
 #ifdef __cplusplus
 }

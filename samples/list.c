@@ -16,7 +16,7 @@ enum { MAX_TEXT = 65536, MAX_CELLS = 65536, MAX_NAME = 256 };
 enum { TEXT_TOO_LONG = 41, PICTURE_TOO_LARGE = 42 };
 
 /* Entries of a report. */
-enum { BYTE, LINE, COLUMN, WIDTH, HEIGHT, NAME_LENGTH, HAS_HOTSPOT, DATA_BYTE, ENTRIES };
+enum { BYTE, LINE, COLUMN, WIDTH, HEIGHT, NAME_LENGTH, HAS_HOTSPOT, DATA_BYTE, START, RESERVED, ENTRIES };
 
 /* One byte more than is taken, to see that a text is longer. */
 static uint8_t text[MAX_TEXT + 1];
@@ -28,8 +28,8 @@ static int refuse(uint32_t number, const uint64_t *report)
 {
     printf("refused %" PRIu32, number);
     if (report != NULL && report[LINE] != 0)
-        printf(" byte=%" PRIu64 ",line=%" PRIu64 ":col=%" PRIu64,
-               report[BYTE], report[LINE], report[COLUMN]);
+        printf(" byte=%" PRIu64 ",line=%" PRIu64 ":col=%" PRIu64 ",start=%" PRIu64,
+               report[BYTE], report[LINE], report[COLUMN], report[START]);
     printf("\n");
     return 1;
 }

@@ -1,5 +1,6 @@
 //! The kinds of text that a run must have drawn, told by what the calls were lent and what the original answered.
 
+use crate::comparison::OriginalReport;
 use crate::interface::{entry, Answer};
 use crate::texts::Layout;
 use oracle::NAME_BUFFER_LENGTH;
@@ -10,7 +11,7 @@ struct Picture<'t> {
     text: &'t [u8],
     /// The lent name buffer's length.
     name_buffer: usize,
-    answer: &'t Answer,
+    answer: &'t Answer<OriginalReport>,
 }
 
 /// The bytes before the first line that begins with `#`, or all.
@@ -77,7 +78,7 @@ pub struct Reached {
 }
 
 impl Reached {
-    pub fn add(&mut self, text: &[u8], name_buffer: usize, answer: &Answer) {
+    pub fn add(&mut self, text: &[u8], name_buffer: usize, answer: &Answer<OriginalReport>) {
         let picture = Picture { text, name_buffer, answer };
         for ((_, is_of), count) in CLASSES.iter().zip(&mut self.classes) {
             *count += u64::from(is_of(&picture));

@@ -1,12 +1,14 @@
 //! One call on both sides, with everything compared: answer, report, hotspot, whole buffers, decoder, and what
-//! must stay as it was: the text, and the bytes beside each lent thing.
+//! must stay as it was: the text, and the bytes beside each lent thing. The start of a line, which the original
+//! does not have, is taken off first and held to the text.
 
 use crate::classes::Reached;
-use crate::interface::{entry, Answer, Interface, Stray, StreamDecoder};
+use crate::interface::{entry, Answer, Call, Interface, Stray, StreamDecoder, TextLocation};
 use crate::interface::{NONE_LEFT, NO_HOTSPOT_ENTRY};
 use crate::random::Random;
-use oracle::{Decoder, Header, Place, ReadHeader, Refusal, NAME_BUFFER_LENGTH};
-use std::fmt::Write;
+use crate::starts::{self, Taken};
+use oracle::{Decoder, Header, Place, Refusal, NAME_BUFFER_LENGTH};
+use std::fmt::{Debug, Write};
 
 /// What is printed where the two sides part.
 pub type Difference = String;
@@ -22,6 +24,35 @@ const SHOWN: usize = 4000;
 
 /// The number that a foreign decoder gets. The original has none.
 const FOREIGN: u32 = 9;
+
+/// The entries of a report that the original has too: those before the start.
+pub type OriginalReport = [u64; entry::START];
+
+/// A report that tells nothing.
+const NOTHING: OriginalReport = [0; entry::START];
+
+/// What is compared with the original: an answer and a decoder without the starts.
+impl Answer {
+    pub fn without_start(self) -> Answer<OriginalReport> {
+        let Answer { result, report, hotspot, stray } = self;
+        let [report @ .., _start, _reserved] = report;
+        Answer { result, report, hotspot, stray }
+    }
+}
+
+impl StreamDecoder {
+    pub fn without_start(self) -> StreamDecoder<Place> {
+        let StreamDecoder { width, height, current_position, location } = self;
+        StreamDecoder { width, height, current_position, location: location.place() }
+    }
+}
+
+/// A header that both sides accepted, and the decoder that ours gives after it.
+#[derive(Clone, Copy)]
+pub struct Accepted {
+    pub header: Header,
+    pub decoder: StreamDecoder,
+}
 
 /// A lent buffer between two guards, filled with bytes that differ from cell to cell.
 #[derive(Default)]
@@ -128,14 +159,6 @@ struct Side {
     pixels: Lent,
 }
 
-/// The calls of the interface.
-#[derive(Clone, Copy, Debug, PartialEq, Eq)]
-pub enum Call {
-    ReadHeader,
-    ReadImage,
-    NextByte,
-}
-
 const CALLS: [(Call, &str); 3] = [
     (Call::ReadHeader, "read_header"),
     (Call::ReadImage, "read_image"),
@@ -145,11 +168,14 @@ const CALLS: [(Call, &str); 3] = [
 /// Accepted `next_byte` calls that gave no byte are counted apart, under a number that no refusal has.
 const ACCEPTED_NONE: usize = 10;
 
+/// And so are decoders that are foreign by their start alone.
+const FOREIGN_START: usize = 15;
+
 /// The numbers that each call can give, all of which a run must reach.
 const REACHED: [&[usize]; 3] = [
     &[0, 1, 2, 3, 4, 5, 11, 12, 13, 14, 21, 22],
     &[0, 1, 2, 3, 4, 5, 6, 7, 8, 11, 12, 13, 14, 21, 22, 31],
-    &[0, 6, 7, 8, FOREIGN as usize, ACCEPTED_NONE],
+    &[0, 6, 7, 8, FOREIGN as usize, ACCEPTED_NONE, FOREIGN_START],
 ];
 
 /// How often each call gave each number.
@@ -159,9 +185,7 @@ pub struct Tally {
 }
 
 impl Tally {
-    fn add(&mut self, call: Call, answer: &Answer) {
-        let none = call == Call::NextByte && answer.report[entry::DATA_BYTE] == NONE_LEFT;
-        let number = if none { ACCEPTED_NONE } else { answer.result as usize };
+    fn add(&mut self, call: Call, number: usize) {
         self.counts[call as usize][number] += 1;
     }
 
@@ -202,6 +226,7 @@ fn label(call: Call, number: usize) -> String {
         (Call::NextByte, 0) => "byte".into(),
         (_, 0) => "accepted".into(),
         (_, ACCEPTED_NONE) => "none".into(),
+        (_, FOREIGN_START) => "9 by the start alone".into(),
         _ => number.to_string(),
     }
 }
@@ -251,7 +276,7 @@ impl<'i> Comparison<'i> {
         &mut self,
         text: impl Into<Text<'t>>,
         name_length: usize,
-    ) -> Result<Option<ReadHeader>, Difference> {
+    ) -> Result<Option<Accepted>, Difference> {
         let text = text.into();
         self.fill(text, name_length, 0);
         let read = oracle::read_header(text.bytes, self.original.name.part());
@@ -264,7 +289,7 @@ impl<'i> Comparison<'i> {
             Err(refusal) => refused(&refusal),
         };
         self.settle(Call::ReadHeader, text, expected, ours)?;
-        Ok(read.ok())
+        Ok(read.ok().map(|read| Accepted { header: read.header, decoder: ours.decoder() }))
     }
 
     /// `read_image` beside the original's two calls.
@@ -285,20 +310,40 @@ impl<'i> Comparison<'i> {
         Ok(())
     }
 
-    /// Up to `calls` calls of `next_byte` in a row, on the decoder as the last one left it.
-    /// A few calls follow the first that gives no byte.
+    /// Calls of `next_byte` with the decoder that a header of this text gave.
+    pub fn next_bytes_after<'t>(
+        &mut self,
+        text: impl Into<Text<'t>>,
+        header: Accepted,
+        calls: usize,
+    ) -> Result<(), Difference> {
+        self.follow(text.into(), header.decoder, Taken::FROM_THE_FIRST, calls)
+    }
+
+    /// Calls of `next_byte` with any decoder.
     pub fn next_bytes<'t>(
         &mut self,
         text: impl Into<Text<'t>>,
         decoder: StreamDecoder,
         calls: usize,
     ) -> Result<(), Difference> {
-        let text = text.into();
+        self.follow(text.into(), decoder, Taken::after(&decoder), calls)
+    }
+
+    /// Up to `calls` calls of `next_byte` in a row, on the decoder as the last one left it.
+    /// A few calls follow the first that gives no byte.
+    fn follow(
+        &mut self,
+        text: Text,
+        decoder: StreamDecoder,
+        taken: Taken,
+        calls: usize,
+    ) -> Result<(), Difference> {
         self.fill(text, 0, 0);
         if foreign(text.bytes, &decoder) {
             return self.next_byte_foreign(text, decoder);
         }
-        let StreamDecoder { width, height, current_position, location } = decoder;
+        let StreamDecoder { width, height, current_position, location } = decoder.without_start();
         let mut original = Decoder::lent(text.bytes, width, height, current_position, location);
         let mut ours = decoder;
         let mut left = calls;
@@ -315,7 +360,7 @@ impl<'i> Comparison<'i> {
             };
             let expected = match read {
                 Ok(byte) => {
-                    let mut report = with_place([0; 8], later.location);
+                    let mut report = with_place(NOTHING, later.location);
                     report[entry::DATA_BYTE] = byte.map_or(NONE_LEFT, u64::from);
                     Answer { result: 0, report, hotspot: NO_HOTSPOT_ENTRY, stray: None }
                 }
@@ -324,7 +369,11 @@ impl<'i> Comparison<'i> {
             if !matches!(read, Ok(Some(_))) {
                 left = left.min(CALLS_AFTER_THE_LAST_BYTE);
             }
-            self.settle_decoder(text, before, (expected, later), (answer, ours))?;
+            let wrong = starts::wrong(Call::NextByte, text.bytes, taken, &answer, Some(&ours));
+            self.settle_decoder(text, before, (expected, later), (answer, ours), wrong)?;
+            let none = expected.report[entry::DATA_BYTE] == NONE_LEFT;
+            let number = if none { ACCEPTED_NONE } else { expected.result as usize };
+            self.tally.add(Call::NextByte, number);
         }
         Ok(())
     }
@@ -334,25 +383,32 @@ impl<'i> Comparison<'i> {
         let mut ours = lent;
         let answer = self.interface.next_byte(self.text.part(), &mut ours);
         let expected =
-            Answer { result: FOREIGN, report: [0; 8], hotspot: NO_HOTSPOT_ENTRY, stray: None };
-        self.settle_decoder(text, lent, (expected, lent), (answer, ours))
+            Answer { result: FOREIGN, report: NOTHING, hotspot: NO_HOTSPOT_ENTRY, stray: None };
+        let wrong = starts::wrong_foreign(&answer, &lent, &ours);
+        let later = lent.without_start();
+        self.settle_decoder(text, lent, (expected, later), (answer, ours), wrong)?;
+        let by_start = !foreign_without_start(text.bytes, &later);
+        self.tally.add(Call::NextByte, if by_start { FOREIGN_START } else { FOREIGN as usize });
+        Ok(())
     }
 
     fn settle(
         &mut self,
         call: Call,
         text: Text,
-        expected: Answer,
+        expected: Answer<OriginalReport>,
         mut ours: Answer,
     ) -> Result<(), Difference> {
+        let wrong_start = starts::wrong(call, text.bytes, Taken::FROM_THE_FIRST, &ours, None);
         let (original, side) = (&self.original, &self.ours);
         ours.stray = ours.stray.or(side.name.stray("name buffer", &original.name));
         ours.stray = ours.stray.or(side.pixels.stray("pixel buffer", &original.pixels));
         ours.stray = ours.stray.or(self.text.stray());
         let buffers_agree =
             original.name.bytes == side.name.bytes && original.pixels.bytes == side.pixels.bytes;
-        if expected == ours && buffers_agree && self.text.kept(text) {
-            self.tally.add(call, &expected);
+        let answers_agree = expected == ours.without_start() && wrong_start.is_none();
+        if answers_agree && buffers_agree && self.text.kept(text) {
+            self.tally.add(call, expected.result as usize);
             return Ok(());
         }
         let mut out = self.heading(CALLS[call as usize].1, text);
@@ -372,7 +428,7 @@ impl<'i> Comparison<'i> {
                     .unwrap();
             }
         }
-        write_answers(&mut out, &expected, &ours);
+        write_answers(&mut out, &expected, &ours, wrong_start);
         Err(out)
     }
 
@@ -380,19 +436,20 @@ impl<'i> Comparison<'i> {
         &mut self,
         text: Text,
         lent: StreamDecoder,
-        expected: (Answer, StreamDecoder),
+        expected: (Answer<OriginalReport>, StreamDecoder<Place>),
         mut ours: (Answer, StreamDecoder),
+        wrong_start: Option<String>,
     ) -> Result<(), Difference> {
         ours.0.stray = ours.0.stray.or(self.text.stray());
-        if expected == ours && self.text.kept(text) {
-            self.tally.add(Call::NextByte, &expected.0);
+        let compared = (ours.0.without_start(), ours.1.without_start());
+        if expected == compared && wrong_start.is_none() && self.text.kept(text) {
             return Ok(());
         }
         let mut out = self.heading("next_byte", text);
         writeln!(out, "decoder lent:   {lent:?}").unwrap();
         writeln!(out, "expected later: {:?}", expected.1).unwrap();
         writeln!(out, "ours later:     {:?}", ours.1).unwrap();
-        write_answers(&mut out, &expected.0, &ours.0);
+        write_answers(&mut out, &expected.0, &ours.0, wrong_start);
         Err(out)
     }
 
@@ -420,8 +477,14 @@ pub const LONGEST_NAME: usize = 400;
 /// Calls made after one that gave no byte: a refusal or the trailer.
 const CALLS_AFTER_THE_LAST_BYTE: usize = 3;
 
-/// Document 01's foreign decoder, on numbers wide enough for any sum.
+/// Document 01's foreign decoder, and one whose start is not its byte less its column.
 fn foreign(text: &[u8], decoder: &StreamDecoder) -> bool {
+    let TextLocation { byte, column, start, .. } = decoder.location;
+    foreign_without_start(text, &decoder.without_start()) || byte.checked_sub(column) != Some(start)
+}
+
+/// Document 01's foreign decoder, on numbers wide enough for any sum.
+fn foreign_without_start(text: &[u8], decoder: &StreamDecoder<Place>) -> bool {
     let Place { byte, line, column } = decoder.location;
     decoder.width == 0
         || decoder.height == 0
@@ -437,7 +500,7 @@ pub fn data_size(width: u32, height: u32) -> u128 {
 }
 
 /// The original's two calls, as our one call tells them. The name is as `read_xbm_header` leaves it.
-pub fn original_image(text: &[u8], name: &mut [u8], pixels: &mut [u8]) -> Answer {
+pub fn original_image(text: &[u8], name: &mut [u8], pixels: &mut [u8]) -> Answer<OriginalReport> {
     let read = oracle::read_header(text, name);
     let answer = if name.len() == NAME_BUFFER_LENGTH {
         oracle::read_image(text, pixels)
@@ -456,13 +519,13 @@ pub fn original_image(text: &[u8], name: &mut [u8], pixels: &mut [u8]) -> Answer
     }
 }
 
-fn accepted_header(header: &Header) -> Answer {
+fn accepted_header(header: &Header) -> Answer<OriginalReport> {
     let (x, y) = header.hotspot.unwrap_or((0, 0));
-    Answer { result: 0, report: [0; 8], hotspot: [x, y], stray: None }
+    Answer { result: 0, report: NOTHING, hotspot: [x, y], stray: None }
 }
 
-fn header_report(header: &Header, name_length: usize) -> [u64; 8] {
-    let mut report = [0; 8];
+fn header_report(header: &Header, name_length: usize) -> OriginalReport {
+    let mut report = NOTHING;
     report[entry::WIDTH] = header.width.into();
     report[entry::HEIGHT] = header.height.into();
     report[entry::NAME_LENGTH] = name_length as u64;
@@ -470,27 +533,32 @@ fn header_report(header: &Header, name_length: usize) -> [u64; 8] {
     report
 }
 
-fn with_place(mut report: [u64; 8], place: Place) -> [u64; 8] {
+fn with_place(mut report: OriginalReport, place: Place) -> OriginalReport {
     report[entry::BYTE] = place.byte;
     report[entry::LINE] = place.line;
     report[entry::COLUMN] = place.column;
     report
 }
 
-fn refused(refusal: &Refusal) -> Answer {
-    let report = match refusal.place {
-        Some(place) => with_place([0; 8], place),
-        None => [0; 8],
-    };
+fn refused(refusal: &Refusal) -> Answer<OriginalReport> {
+    let report = refusal.place.map_or(NOTHING, |place| with_place(NOTHING, place));
     Answer { result: refusal.number, report, hotspot: [0, 0], stray: None }
 }
 
-fn write_answers(out: &mut String, expected: &Answer, ours: &Answer) {
+fn write_answers(
+    out: &mut String,
+    expected: &Answer<OriginalReport>,
+    ours: &Answer,
+    wrong_start: Option<String>,
+) {
     writeln!(out, "expected: {}", told(expected)).unwrap();
     writeln!(out, "ours:     {}", told(ours)).unwrap();
+    if let Some(wrong) = wrong_start {
+        writeln!(out, "ours:     {wrong}").unwrap();
+    }
 }
 
-fn told(answer: &Answer) -> String {
+fn told<R: Debug>(answer: &Answer<R>) -> String {
     let Answer { result, report, hotspot, stray } = answer;
     let stray = stray.map_or(String::new(), |stray| format!(", {stray}"));
     format!("result {result}, report {report:?}, hotspot {hotspot:?}{stray}")

@@ -3,14 +3,47 @@
 use oracle::Place;
 use std::{fmt, ptr};
 
-/// A decoder as C lends it: sides, data bytes spent, place.
+/// A place as C has it: the original's three numbers, and the count of bytes at which its line starts.
 #[derive(Clone, Copy, Debug, PartialEq, Eq)]
 #[repr(C)]
-pub struct StreamDecoder {
+pub struct TextLocation {
+    pub byte: u64,
+    pub line: u64,
+    pub column: u64,
+    pub start: u64,
+}
+
+impl TextLocation {
+    /// The place at which every text begins.
+    pub const START: TextLocation = TextLocation { byte: 0, line: 1, column: 0, start: 0 };
+
+    /// A place with the start that it must have: its byte less its column, wrapping where the column is above.
+    pub fn new(byte: u64, line: u64, column: u64) -> TextLocation {
+        TextLocation { byte, line, column, start: byte.wrapping_sub(column) }
+    }
+
+    /// The original's part of it.
+    pub fn place(self) -> Place {
+        Place { byte: self.byte, line: self.line, column: self.column }
+    }
+}
+
+/// A decoder as C lends it: sides, data bytes spent, place. The original's has its own kind of place.
+#[derive(Clone, Copy, Debug, PartialEq, Eq)]
+#[repr(C)]
+pub struct StreamDecoder<L = TextLocation> {
     pub width: u32,
     pub height: u32,
     pub current_position: u64,
-    pub location: Place,
+    pub location: L,
+}
+
+/// The calls of the interface.
+#[derive(Clone, Copy, Debug, PartialEq, Eq)]
+pub enum Call {
+    ReadHeader,
+    ReadImage,
+    NextByte,
 }
 
 /// Entries of a report.
@@ -23,12 +56,18 @@ pub mod entry {
     pub const NAME_LENGTH: usize = 5;
     pub const HAS_HOTSPOT: usize = 6;
     pub const DATA_BYTE: usize = 7;
+    pub const START: usize = 8;
+    /// Always 0.
+    pub const RESERVED: usize = 9;
 }
+
+/// How many entries a report has.
+pub const ENTRIES: usize = 10;
 
 /// The data byte's entry when none is left.
 pub const NONE_LEFT: u64 = 256;
 
-pub type Report = [u64; 8];
+pub type Report = [u64; ENTRIES];
 pub type Hotspot = [i32; 2];
 
 pub type ReadHeader =
@@ -53,14 +92,36 @@ pub struct Interface {
     pub read_image: ReadImage,
 }
 
-/// All that a call tells beside the buffers it is lent.
+/// All that a call tells beside the buffers it is lent. The original's has its own kind of report.
 #[derive(Clone, Copy, Debug, PartialEq, Eq)]
-pub struct Answer {
+pub struct Answer<R = Report> {
     pub result: u32,
-    pub report: Report,
+    pub report: R,
     pub hotspot: Hotspot,
     /// Where it wrote beside its report, its hotspot or its decoder.
     pub stray: Option<Stray>,
+}
+
+impl Answer {
+    /// The place told.
+    pub fn location(&self) -> TextLocation {
+        TextLocation {
+            byte: self.report[entry::BYTE],
+            line: self.report[entry::LINE],
+            column: self.report[entry::COLUMN],
+            start: self.report[entry::START],
+        }
+    }
+
+    /// The decoder after an accepted header, filled from its report as `xbm.h` says.
+    pub fn decoder(&self) -> StreamDecoder {
+        StreamDecoder {
+            width: self.report[entry::WIDTH] as u32,
+            height: self.report[entry::HEIGHT] as u32,
+            current_position: 0,
+            location: self.location(),
+        }
+    }
 }
 
 /// A write just before or just past a lent thing.
@@ -121,7 +182,7 @@ struct Told {
 
 impl Told {
     fn new() -> Told {
-        Told { report: Guarded::new([JUNK; 8]), hotspot: Guarded::new([JUNK_HOTSPOT; 2]) }
+        Told { report: Guarded::new([JUNK; ENTRIES]), hotspot: Guarded::new([JUNK_HOTSPOT; 2]) }
     }
 
     fn answer(self, result: u32) -> Answer {

@@ -3,6 +3,7 @@
 pub mod interface;
 pub mod library;
 pub mod random;
+pub mod starts;
 pub mod texts;
 
 #[cfg(has_original)]

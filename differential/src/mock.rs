@@ -1,8 +1,7 @@
 //! A stand-in for the proved reader, made of the original, with faults planted at will.
 //! It only tests the comparison: no result of it says anything of the proved reader.
 
-use crate::comparison::Call;
-use crate::interface::{Interface, StreamDecoder};
+use crate::interface::{entry, Call, Interface, StreamDecoder, TextLocation, ENTRIES};
 use oracle::{Decoder, Header, Place, Refusal};
 use std::cell::Cell;
 use std::slice;
@@ -32,8 +31,8 @@ pub enum Fault {
     ForeignMissed,
     /// The hotspot of a refused image is still told.
     Hotspot,
-    /// The last entry of the report is left as it was.
-    Report,
+    /// An entry of the report is left as it was where it is to be 0.
+    Unwritten(usize),
     /// Highest bit first.
     Bits,
     /// The largest width is taken for an integer that does not fit.
@@ -50,10 +49,49 @@ pub enum Fault {
     Tabs,
     /// The byte after the text is read too.
     Overread,
+    /// A newline does not move the start.
+    StartKept,
+    /// The start counts the bytes before the newline, not the newline too.
+    StartEarly,
+    /// A call begins a line.
+    StartAtCall,
+    /// The start counts from where the call began.
+    StartOfCall,
+    /// The start is looked up in the text, whatever the decoder has.
+    StartLookedUp,
+    /// The report tells no start.
+    StartUntold,
+    /// A refused data byte or trailer tells the start from before the call.
+    StartStale,
+    /// An accepted image tells the start that its header told.
+    StartWithoutPlace,
+    /// The decoder's start becomes 0.
+    StartLost,
+    /// The decoder's start is left as it was.
+    StartLeft,
+    /// The report's last entry tells the start too.
+    Reserved,
+    /// Some starts, or all, are not seen as foreign.
+    ForeignStart(Unseen),
+    /// A foreign decoder's start is put right.
+    ForeignStartChanged,
     /// The call changes its text.
     TextChanged(Call),
     /// The call writes a byte just before or just past something that it is lent.
     Stray(Call, Thing, Side),
+}
+
+/// Foreign starts that a fault takes. The last four leave out what is close to another of them.
+#[derive(Clone, Copy, Debug, PartialEq, Eq)]
+pub enum Unseen {
+    All,
+    UpToByte,
+    AboveByte,
+    /// In column 0.
+    Zero,
+    Largest,
+    OneTooFew,
+    OneTooMany,
 }
 
 /// What a call is lent.
@@ -94,7 +132,7 @@ impl Fault {
         Fault::ForeignChanged,
         Fault::ForeignMissed,
         Fault::Hotspot,
-        Fault::Report,
+        Fault::Unwritten(entry::DATA_BYTE),
         Fault::Bits,
         Fault::WidestRefused,
         Fault::LongText,
@@ -103,6 +141,45 @@ impl Fault {
         Fault::LongName,
         Fault::Tabs,
         Fault::Overread,
+    ];
+
+    /// Those of the starts and of the entry that is kept free, each with what is to be said of it.
+    pub const STARTS: [(Fault, &str); 14] = [
+        (Fault::StartKept, "the report has start 0, but the line starts at 37"),
+        (Fault::StartEarly, "the report has start 36, but the line starts at 37"),
+        (Fault::StartAtCall, "but the line starts at"),
+        (Fault::StartOfCall, "but the line starts at"),
+        (Fault::StartLookedUp, "but the line starts at"),
+        (Fault::StartUntold, "the report has start 0, but the line starts at 37"),
+        (Fault::StartStale, "the report has start"),
+        (Fault::StartWithoutPlace, "the report has start 37, but no place is to be told"),
+        (Fault::StartLost, "the decoder has start 0, but the line starts at"),
+        (Fault::StartLeft, "the decoder has start"),
+        (Fault::Unwritten(entry::START), "but no place is to be told"),
+        (Fault::Unwritten(entry::RESERVED), "the report's entry 9 is"),
+        (Fault::Reserved, "the report's entry 9 is 37, not 0"),
+        (Fault::ForeignStartChanged, "the decoder has start 0, but"),
+    ];
+
+    /// Those of the starts that a lent decoder alone shows.
+    pub const LENT_STARTS: [Fault; 6] = [
+        Fault::StartAtCall,
+        Fault::StartOfCall,
+        Fault::StartLookedUp,
+        Fault::StartStale,
+        Fault::StartLost,
+        Fault::StartLeft,
+    ];
+
+    /// Those that take a foreign start.
+    pub const FOREIGN_STARTS: [Fault; 7] = [
+        Fault::ForeignStart(Unseen::All),
+        Fault::ForeignStart(Unseen::UpToByte),
+        Fault::ForeignStart(Unseen::AboveByte),
+        Fault::ForeignStart(Unseen::Zero),
+        Fault::ForeignStart(Unseen::Largest),
+        Fault::ForeignStart(Unseen::OneTooFew),
+        Fault::ForeignStart(Unseen::OneTooMany),
     ];
 
     /// Those that write where nothing may be written, each with what is to be said of it.
@@ -203,8 +280,38 @@ unsafe fn part_mut<'a>(pointer: *mut u8, length: usize) -> &'a mut [u8] {
     slice::from_raw_parts_mut(pointer, length)
 }
 
-fn tell(report: &mut [u64], place: Place) {
+/// The place at which a call arrives that began at another: the start moves where the line did.
+fn located(text: &[u8], from: TextLocation, place: Place) -> TextLocation {
+    let Place { byte, line, column } = place;
+    let moved = line > from.line;
+    let mut start = if moved { byte - column } else { from.start };
+    if planted(Fault::StartKept) {
+        start = from.start;
+    }
+    if planted(Fault::StartEarly) && moved {
+        start -= 1;
+    }
+    if planted(Fault::StartAtCall) && !moved {
+        start = from.byte;
+    }
+    if planted(Fault::StartOfCall) && moved {
+        start -= from.byte;
+    }
+    if planted(Fault::StartLookedUp) {
+        let newline = text[..byte as usize].iter().rposition(|&b| b == b'\n');
+        start = newline.map_or(0, |at| at as u64 + 1);
+    }
+    TextLocation { byte, line, column, start }
+}
+
+fn tell(report: &mut [u64], place: TextLocation) {
     report[..3].copy_from_slice(&[place.byte, place.line, place.column]);
+    if !planted(Fault::StartUntold) {
+        report[8] = place.start;
+    }
+    if planted(Fault::Reserved) {
+        report[9] = place.start;
+    }
 }
 
 fn tell_header(report: &mut [u64], hotspot: &mut [i32], header: Header) {
@@ -216,14 +323,18 @@ fn tell_header(report: &mut [u64], hotspot: &mut [i32], header: Header) {
     }
 }
 
-fn refuse(report: &mut [u64], text: &[u8], refusal: Refusal) -> u32 {
-    if let Some(mut place) = refusal.place {
+fn refuse(report: &mut [u64], text: &[u8], from: TextLocation, refusal: Refusal) -> u32 {
+    if let Some(place) = refusal.place {
+        let mut place = located(text, from, place);
         if planted(Fault::Column) && refusal.number == 7 {
             place.column += 1;
         }
         let last = place.byte.checked_sub(1).map(|at| text[at as usize]);
         if planted(Fault::Line) && last == Some(b'\n') && refusal.number == 2 {
             place.line -= 1;
+        }
+        if planted(Fault::StartStale) && refusal.number >= 6 {
+            place.start = from.start;
         }
         tell(report, place);
     }
@@ -232,9 +343,12 @@ fn refuse(report: &mut [u64], text: &[u8], refusal: Refusal) -> u32 {
 
 /// Report and hotspot, all entries 0.
 unsafe fn cleared<'a>(report: *mut u64, hotspot: *mut i32) -> (&'a mut [u64], &'a mut [i32]) {
-    let entries = if planted(Fault::Report) { 7 } else { 8 };
-    let report = slice::from_raw_parts_mut(report, 8);
-    report[..entries].fill(0);
+    let report = slice::from_raw_parts_mut(report, ENTRIES);
+    for (i, entry) in report.iter_mut().enumerate() {
+        if !planted(Fault::Unwritten(i)) {
+            *entry = 0;
+        }
+    }
     let hotspot = slice::from_raw_parts_mut(hotspot, 2);
     hotspot.fill(0);
     (report, hotspot)
@@ -250,7 +364,7 @@ unsafe extern "C" fn read_header(
 ) -> u32 {
     const CALL: Call = Call::ReadHeader;
     stray(CALL, Thing::Name, name, name_len);
-    stray(CALL, Thing::Report, report, 8);
+    stray(CALL, Thing::Report, report, ENTRIES);
     stray(CALL, Thing::Hotspot, hotspot, 2);
     let (text, _changing) = text_part(CALL, text, text_len);
     let name = part_mut(name, name_len);
@@ -261,7 +375,7 @@ unsafe extern "C" fn read_header(
             if planted(Fault::WidestRefused) && read.header.width == u32::MAX {
                 return 11;
             }
-            tell(report, read.place);
+            tell(report, located(text, TextLocation::START, read.place));
             tell_header(report, hotspot, read.header);
             report[5] = read.name_length as u64;
             if planted(Fault::LongName) && read.name_length > 270 {
@@ -277,7 +391,7 @@ unsafe extern "C" fn read_header(
             if planted(Fault::NameByte) && refusal.place.is_some_and(|p| p.byte == 264) {
                 *name.last_mut().unwrap() = last.unwrap();
             }
-            refuse(report, text, refusal)
+            refuse(report, text, TextLocation::START, refusal)
         }
     }
 }
@@ -290,7 +404,7 @@ unsafe extern "C" fn next_byte(
 ) -> u32 {
     const CALL: Call = Call::NextByte;
     stray(CALL, Thing::Decoder, decoder, 1);
-    stray(CALL, Thing::Report, report, 8);
+    stray(CALL, Thing::Report, report, ENTRIES);
     let (text, _changing) = text_part(CALL, text, text_len);
     let decoder = &mut *decoder;
     let (report, _) = cleared(report, [0; 2].as_mut_ptr());
@@ -302,26 +416,56 @@ unsafe extern "C" fn next_byte(
         || current_position > data
         || location.byte > text_len as u64
         || past_column
-        || location.line > location.byte + 1;
+        || location.line > location.byte + 1
+        || foreign_start(location);
     if foreign {
         if planted(Fault::ForeignChanged) {
             decoder.current_position = 0;
         }
+        if planted(Fault::ForeignStartChanged) {
+            decoder.location.start = location.byte.wrapping_sub(location.column);
+        }
         return 9;
     }
-    let mut original = Decoder::lent(text, width, height, current_position, location);
+    let mut original = Decoder::lent(text, width, height, current_position, location.place());
     let read = original.next_byte();
     let kept = planted(Fault::Position) && read.is_err();
     decoder.current_position = if kept { current_position } else { original.position() };
-    decoder.location = original.place();
+    let later = located(text, location, original.place());
+    decoder.location = later;
+    if planted(Fault::StartLost) {
+        decoder.location.start = 0;
+    }
+    if planted(Fault::StartLeft) {
+        decoder.location.start = location.start;
+    }
     match read {
         Ok(byte) => {
-            tell(report, decoder.location);
+            tell(report, later);
             report[7] = byte.map_or(256, u64::from);
             0
         }
-        Err(refusal) => refuse(report, text, refusal),
+        Err(refusal) => refuse(report, text, location, refusal),
     }
+}
+
+/// Whether the start is not the byte less the column, by numbers that wrap around.
+fn foreign_start(location: TextLocation) -> bool {
+    let TextLocation { byte, column, start, .. } = location;
+    let right = byte.wrapping_sub(column);
+    let unseen = match PLANTED.get() {
+        Some(Fault::ForeignStart(unseen)) => match unseen {
+            Unseen::All => true,
+            Unseen::UpToByte => start <= byte,
+            Unseen::AboveByte => start > byte,
+            Unseen::Zero => start == 0 && column == 0 && byte > 1,
+            Unseen::Largest => start == u64::MAX && right > 0,
+            Unseen::OneTooFew => right.checked_sub(1) == Some(start) && column > 0,
+            Unseen::OneTooMany => right.checked_add(1) == Some(start) && column > 1,
+        },
+        _ => false,
+    };
+    start != right && !unseen
 }
 
 unsafe extern "C" fn read_image(
@@ -337,7 +481,7 @@ unsafe extern "C" fn read_image(
     const CALL: Call = Call::ReadImage;
     stray(CALL, Thing::Name, name, name_len);
     stray(CALL, Thing::Pixels, pixels, pixels_len);
-    stray(CALL, Thing::Report, report, 8);
+    stray(CALL, Thing::Report, report, ENTRIES);
     stray(CALL, Thing::Hotspot, hotspot, 2);
     let (text, _changing) = text_part(CALL, text, text_len);
     let name = part_mut(name, name_len);
@@ -360,6 +504,9 @@ unsafe extern "C" fn read_image(
             let width = header.width as usize;
             spoil(text, pixels, &lent, width);
             tell_header(report, hotspot, header);
+            if let (Ok(read), true) = (read, planted(Fault::StartWithoutPlace)) {
+                report[8] = read.place.byte - read.place.column;
+            }
             0
         }
         Err(refusal) => {
@@ -371,7 +518,7 @@ unsafe extern "C" fn read_image(
             {
                 hotspot.copy_from_slice(&[x, y]);
             }
-            refuse(report, text, refusal)
+            refuse(report, text, TextLocation::START, refusal)
         }
     }
 }

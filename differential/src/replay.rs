@@ -1,7 +1,7 @@
 //! The stored list of the original's answers, which `crates/replay` replays where there is no Rust.
 //! `docs/REPLAY.md` tells its format.
 
-use crate::comparison::original_image;
+use crate::comparison::{original_image, OriginalReport};
 use crate::interface::{entry, Answer};
 use crate::random::Random;
 use crate::texts::{self, Layout, Mask, TELLING, TOKENS};
@@ -36,8 +36,8 @@ const DRAWN: usize = 900;
 /// The numbers that the original gives.
 const NUMBERS: [usize; 15] = [1, 2, 3, 4, 5, 6, 7, 8, 11, 12, 13, 14, 21, 22, 31];
 
-/// What answers for a text, a name buffer and a pixel buffer.
-type Reader<'r> = &'r dyn Fn(&[u8], &mut [u8], &mut [u8]) -> Answer;
+/// What answers for a text, a name buffer and a pixel buffer. The list has no starts of lines.
+type Reader<'r> = &'r dyn Fn(&[u8], &mut [u8], &mut [u8]) -> Answer<OriginalReport>;
 
 /// A list while it is made.
 pub struct List<'r> {
@@ -416,7 +416,7 @@ mod tests {
         let stored = List::stored().bytes();
         let made_by = |interface: Interface| {
             List::of_families(&|text, name, pixels| {
-                interface.read_image(&mut text.to_vec(), name, pixels)
+                interface.read_image(&mut text.to_vec(), name, pixels).without_start()
             })
             .bytes()
         };

@@ -1,12 +1,12 @@
 //! Which texts and buffers are tried: fixed families at the limits first, then drawn ones up to a count.
 
 use crate::classes::Reached;
-use crate::comparison::{data_size, Comparison, Difference, Tally, Text};
+use crate::comparison::{data_size, Accepted, Comparison, Difference, Tally, Text};
 use crate::comparison::{LONGEST_BUFFER, LONGEST_NAME};
-use crate::interface::{Interface, StreamDecoder};
+use crate::interface::{Interface, StreamDecoder, TextLocation};
 use crate::random::Random;
 use crate::texts::{self, Layout, Mask, TELLING, TOKENS};
-use oracle::{Header, Place, ReadHeader, NAME_BUFFER_LENGTH};
+use oracle::{Header, NAME_BUFFER_LENGTH};
 
 type Tried = Result<(), Difference>;
 
@@ -69,6 +69,10 @@ pub const SOUND: [&[u8]; 13] = [
     b"#define 0_width 8\n#define 0_height 4\nstatic unsigned char 0_bits[] = {\n   0x80, 0x40, 0x20, 0x10};\n",
 ];
 
+/// Data and trailers with newlines in many places, some right at the start and the end.
+const LINES: [&[u8]; 3] =
+    [b"0x01,\n0x02,0x03\n};\n", b"\n\n 0x01 ,\n\n\t0x02\n,0x03,\n}\n ;\n \n", b"0x01,0x02\n,z};"];
+
 struct Trials<'i> {
     comparison: Comparison<'i>,
     random: Random,
@@ -85,7 +89,9 @@ impl Trials<'_> {
         self.pixel_buffers()?;
         self.separators()?;
         self.short_tails()?;
-        self.decoders_at_the_limits()
+        self.decoders_at_the_limits()?;
+        self.lent_starts()?;
+        self.foreign_starts()
     }
 
     /// Every cut of the sound texts. The bytes after the cut stand after it in memory.
@@ -275,7 +281,7 @@ impl Trials<'_> {
             self.image(&text, 32)?;
             for spent in 0..=1 {
                 let byte = header.len() as u64 + 4 * spent;
-                let location = Place { byte, line: 3, column: byte - 38 };
+                let location = TextLocation::new(byte, 3, byte - 38);
                 let decoder =
                     StreamDecoder { width: 32, height: 1, current_position: spent, location };
                 self.comparison.next_bytes(&text, decoder, 8)?;
@@ -295,7 +301,7 @@ impl Trials<'_> {
                     width: 9,
                     height: 1,
                     current_position: position,
-                    location: Place::START,
+                    location: TextLocation::START,
                 };
                 self.comparison.next_bytes(&tail, decoder, 4)?;
             }
@@ -315,13 +321,50 @@ impl Trials<'_> {
                         for byte in near(length).chain([0, length / 2]) {
                             for line in near(byte.wrapping_add(1)).chain([0, 1]) {
                                 for column in near(byte).chain([0]) {
-                                    let location = Place { byte, line, column };
+                                    let location = TextLocation::new(byte, line, column);
                                     let decoder =
                                         StreamDecoder { width, height, current_position, location };
                                     self.comparison.next_bytes(text, decoder, 2)?;
                                 }
                             }
                         }
+                    }
+                }
+            }
+        }
+        Ok(())
+    }
+
+    /// Decoders at every byte with every column up to it: their lines start where no header would say so.
+    fn lent_starts(&mut self) -> Tried {
+        for text in LINES {
+            for byte in 0..=text.len() as u64 {
+                for column in 0..=byte {
+                    for current_position in 0..=3 {
+                        let location = TextLocation::new(byte, 1, column);
+                        let decoder =
+                            StreamDecoder { width: 17, height: 1, current_position, location };
+                        self.comparison.next_bytes(text, decoder, 6)?;
+                    }
+                }
+            }
+        }
+        Ok(())
+    }
+
+    /// Decoders at every byte whose start is one more or less than it must be, or 0, or past the byte.
+    fn foreign_starts(&mut self) -> Tried {
+        for text in LINES {
+            for byte in 0..=text.len() as u64 {
+                for column in [0, 1, byte / 2, byte.saturating_sub(1), byte, byte + 1] {
+                    let location = TextLocation::new(byte, 1, column);
+                    let right = location.start;
+                    let beside = [right.wrapping_sub(1), right.wrapping_add(1)];
+                    for start in near(byte).chain(beside).chain([0, 1, 1 << 32, 1 << 63]) {
+                        let location = TextLocation { start, ..location };
+                        let decoder =
+                            StreamDecoder { width: 17, height: 1, current_position: 0, location };
+                        self.comparison.next_bytes(text, decoder, 2)?;
                     }
                 }
             }
@@ -349,7 +392,7 @@ impl Trials<'_> {
     }
 
     /// The header with a name buffer of the original's length.
-    fn header<'t>(&mut self, text: impl Into<Text<'t>>) -> Result<Option<ReadHeader>, Difference> {
+    fn header<'t>(&mut self, text: impl Into<Text<'t>>) -> Result<Option<Accepted>, Difference> {
         self.comparison.read_header(text, NAME_BUFFER_LENGTH)
     }
 
@@ -365,9 +408,8 @@ impl Trials<'_> {
         let pixels = self.pixel_length(read.map(|read| read.header));
         self.image(text, pixels)?;
         if let Some(read) = read {
-            let decoder = after_header(&read.header, read.place);
             let calls = self.random.within(1, 8);
-            self.comparison.next_bytes(text, decoder, calls)?;
+            self.comparison.next_bytes_after(text, read, calls)?;
         }
         Ok(())
     }
@@ -389,14 +431,19 @@ impl Trials<'_> {
             self.comparison.read_image(text, name, pixels)?;
         }
         if let (Some(read), true) = (read, self.random.once_in(8)) {
-            let decoder = after_header(&read.header, read.place);
             // All of a long picture only at times, so that the count is not spent on a few texts.
             let calls = if self.random.once_in(16) { usize::MAX } else { 200 };
-            self.comparison.next_bytes(text, decoder, calls)?;
+            self.comparison.next_bytes_after(text, read, calls)?;
         }
         let decoder = self.decoder(text.bytes(), header);
         let calls = self.random.within(1, 6);
-        self.comparison.next_bytes(text, decoder, calls)
+        self.comparison.next_bytes(text, decoder, calls)?;
+        if self.random.once_in(4) {
+            // The same once more, so that wrong starts do not take the place of sound decoders.
+            let location = self.wrong_start(decoder.location);
+            self.comparison.next_bytes(text, StreamDecoder { location, ..decoder }, calls)?;
+        }
+        Ok(())
     }
 
     /// A pixel buffer: exact, a row or a cell away from it, empty, shorter than a row, or any.
@@ -413,6 +460,7 @@ impl Trials<'_> {
     }
 
     /// A decoder with drawn numbers: mostly ones that some header could have given, some foreign.
+    /// The start is the byte less the column.
     fn decoder(&mut self, text: &[u8], header: Option<Header>) -> StreamDecoder {
         let random = &mut self.random;
         let side = |random: &mut Random| match random.below(16) {
@@ -452,7 +500,23 @@ impl Trials<'_> {
             2 => 0,
             _ => random.word() % byte.saturating_add(1).max(1),
         };
-        StreamDecoder { width, height, current_position, location: Place { byte, line, column } }
+        let location = TextLocation::new(byte, line, column);
+        StreamDecoder { width, height, current_position, location }
+    }
+
+    /// The place with another start, one that is foreign but by rare chance.
+    fn wrong_start(&mut self, location: TextLocation) -> TextLocation {
+        let TextLocation { byte, start: right, .. } = location;
+        let random = &mut self.random;
+        let start = match random.below(8) {
+            0 | 1 => right.wrapping_add(1),
+            2 | 3 => right.wrapping_sub(1),
+            4 => byte.saturating_add(1 + random.below(3) as u64),
+            5 => u64::MAX,
+            6 => random.word(),
+            _ => return TextLocation { column: 0, start: 0, ..location },
+        };
+        TextLocation { start, ..location }
     }
 }
 
@@ -486,10 +550,6 @@ fn byte_in_data(random: &mut Random, text: &[u8]) -> u64 {
     let stops: &[u8] = random.pick(&[b",", b"0", b"}", b"{", b";"]);
     let found = text[from..].iter().position(|b| stops.contains(b));
     found.map_or(brace, |at| from + at) as u64
-}
-
-fn after_header(header: &Header, location: Place) -> StreamDecoder {
-    StreamDecoder { width: header.width, height: header.height, current_position: 0, location }
 }
 
 /// Telling lengths of the pixel buffer for a header; the first is exact where the picture is small.
@@ -556,12 +616,18 @@ mod tests {
         assert_eq!(run.drawn, 0);
     }
 
+    fn trials(interface: &Interface) -> Trials<'_> {
+        Trials { comparison: Comparison::new(interface), random: Random::new(SEED) }
+    }
+
+    /// Drawn texts that are tried without the families.
+    const TEXTS: usize = 20_000;
+
     #[test]
     fn drawn_texts_alone_reach_every_number_and_class() {
         let interface = mock::without_fault();
-        let mut trials =
-            Trials { comparison: Comparison::new(&interface), random: Random::new(SEED) };
-        for _ in 0..20_000 {
+        let mut trials = trials(&interface);
+        for _ in 0..TEXTS {
             trials.drawn().unwrap_or_else(|e| panic!("{e}"));
         }
         let Comparison { tally, reached, .. } = trials.comparison;
@@ -603,6 +669,33 @@ mod tests {
     fn faults_in_answers_and_cells_are_caught() {
         for fault in Fault::ANSWERS {
             difference(fault);
+        }
+    }
+
+    #[test]
+    fn faults_in_starts_are_caught_and_named() {
+        let foreign = Fault::FOREIGN_STARTS.map(|fault| (fault, "expected: result 9"));
+        for (fault, said) in Fault::STARTS.into_iter().chain(foreign) {
+            let difference = difference(fault);
+            assert!(difference.contains(said), "{fault:?}: no {said:?} in\n{difference}");
+        }
+    }
+
+    /// Lent by their family, and drawn.
+    #[test]
+    fn starts_of_each_kind_are_lent() {
+        for fault in Fault::LENT_STARTS {
+            let interface = mock::with_fault(fault);
+            assert!(trials(&interface).lent_starts().is_err(), "{fault:?} passed unseen");
+        }
+        for fault in Fault::FOREIGN_STARTS {
+            let interface = mock::with_fault(fault);
+            assert!(trials(&interface).foreign_starts().is_err(), "{fault:?} passed unseen");
+        }
+        for fault in Fault::LENT_STARTS.into_iter().chain(Fault::FOREIGN_STARTS) {
+            let interface = mock::with_fault(fault);
+            let mut trials = trials(&interface);
+            assert!((0..TEXTS).any(|_| trials.drawn().is_err()), "{fault:?} not drawn");
         }
     }
 

@@ -18,15 +18,15 @@ step a n report = record { told = a; answer = (n, report) }
 
 -- the decoder after each call
 abbrev later : XbmStreamDecoder
-later = record { width = 9; height = 2; «current_position» = 3; location = placeOf 141 5 54 }
+later = record { width = 9; height = 2; «current_position» = 3; location = placeOf 141 5 54 87 }
 
 abbrev steps : List Step
 steps =
     -- a data byte, none left, a refusal at its own place, a foreign decoder
-    step (accepted (some 255)) 0 (141 ∷ 5 ∷ 54 ∷ 0 ∷ 0 ∷ 0 ∷ 0 ∷ 255 ∷ [])
-    ∷ step (accepted none) 0 (141 ∷ 5 ∷ 54 ∷ 0 ∷ 0 ∷ 0 ∷ 0 ∷ 256 ∷ [])
-    ∷ step (refused 6 (placeOf 137 6 2)) 6 (137 ∷ 6 ∷ 2 ∷ 0 ∷ 0 ∷ 0 ∷ 0 ∷ 0 ∷ [])
-    ∷ step (unplaced 9) 9 (0 ∷ 0 ∷ 0 ∷ 0 ∷ 0 ∷ 0 ∷ 0 ∷ 0 ∷ [])
+    step (accepted (some 255)) 0 (141 ∷ 5 ∷ 54 ∷ 0 ∷ 0 ∷ 0 ∷ 0 ∷ 255 ∷ 87 ∷ 0 ∷ [])
+    ∷ step (accepted none) 0 (141 ∷ 5 ∷ 54 ∷ 0 ∷ 0 ∷ 0 ∷ 0 ∷ 256 ∷ 87 ∷ 0 ∷ [])
+    ∷ step (refused 6 (placeOf 137 6 2 135)) 6 (137 ∷ 6 ∷ 2 ∷ 0 ∷ 0 ∷ 0 ∷ 0 ∷ 0 ∷ 135 ∷ 0 ∷ [])
+    ∷ step (unplaced 9) 9 (0 ∷ 0 ∷ 0 ∷ 0 ∷ 0 ∷ 0 ∷ 0 ∷ 0 ∷ 0 ∷ 0 ∷ [])
     ∷ []
 
 -- the same by the definitions

@@ -1,4 +1,4 @@
--- What is told of a data byte, as include/xbm.h lists it: a result number, and a report of eight numbers.
+-- What is told of a data byte, as include/xbm.h lists it: a result number, and a report of ten numbers.
 use Prim.Native.Nat.{ℕ}
 use mathlib.Core.List.{List, [], _∷_}
 use mathlib.Core.Option.{Option, none, some}
@@ -15,7 +15,7 @@ nextNumber (unplaced c) = c
 
 -- the place told, and the data byte
 abbrev pub reported : TextLocation → ℕ → List ℕ
-reported p b = p .byte .0 ∷ p .line .0 ∷ p .column .0 ∷ 0 ∷ 0 ∷ 0 ∷ 0 ∷ b ∷ []
+reported p b = p .byte .0 ∷ p .line .0 ∷ p .column .0 ∷ 0 ∷ 0 ∷ 0 ∷ 0 ∷ b ∷ p .start .0 ∷ 0 ∷ []
 
 -- the data byte, or 256 when none is left
 abbrev pub dataOf : Option ℕ → ℕ

@@ -15,14 +15,18 @@ fn wide(b: u8) -> u64
 }
 
 // A report of a place and a data byte.
-fn report_of(place: TextLocation, data: u64) -> [u64; 8]
+fn report_of(place: TextLocation, data: u64) -> [u64; 10]
     ensures { λ r. ⌜ r ≡ reported place «data» ⌝ }
 {
-    [place.byte.0, place.line.0, place.column.0, 0, 0, 0, 0, data]
+    let byte = place.byte.0;
+    let line = place.line.0;
+    let column = place.column.0;
+    let start = place.start.0;
+    [byte, line, column, 0, 0, 0, 0, data, start, 0]
 }
 
 // An answer and the decoder after it, as numbers.
-pub fn tell(answer: NextByte, decoder: XbmStreamDecoder, report: &mut [u64; 8]) -> u32
+pub fn tell(answer: NextByte, decoder: XbmStreamDecoder, report: &mut [u64; 10]) -> u32
     ensures { λ r. ⌜ (r ≡ nextNumber (toldNext answer)) × (now (report .exit) ≡ nextReport (toldNext answer) decoder) ⌝ }
 {
     match answer {

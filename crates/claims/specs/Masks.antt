@@ -44,19 +44,19 @@ abbrev pub table : List Row
 table =
     picture M "width 9\nheight 1\nhotspot -1 -1\nink 1\n" (0 ∷ replicate 8 255)
     ∷ picture (take 72 M) "width 9\nheight 1\nhotspot -1 -1\nink 1\n" (0 ∷ replicate 8 255)
-    ∷ picture (take 71 M) "refused 7 byte=71,line=3:col=34\n" (0 ∷ replicate 8 255)
-    ∷ picture (take 65 M) "refused 6 byte=65,line=3:col=28\n" (0 ∷ replicate 7 255 ++ sevens 1)
-    ∷ picture (take 64 M) "refused 6 byte=64,line=3:col=27\n" (sevens 9)
-    ∷ header (take 18 M) "refused 2 byte=18,line=2:col=0\n" "d_width"
-    ∷ header (take 17 M) "refused 1 byte=17,line=1:col=17\n" "d_width"
-    ∷ header [] "refused 1 byte=0,line=1:col=0\n" ""
-    ∷ header (ascii "#define d_width 9\n\n") "refused 2 byte=19,line=3:col=0\n" "d_width"
+    ∷ picture (take 71 M) "refused 7 byte=71,line=3:col=34,start=37\n" (0 ∷ replicate 8 255)
+    ∷ picture (take 65 M) "refused 6 byte=65,line=3:col=28,start=37\n" (0 ∷ replicate 7 255 ++ sevens 1)
+    ∷ picture (take 64 M) "refused 6 byte=64,line=3:col=27,start=37\n" (sevens 9)
+    ∷ header (take 18 M) "refused 2 byte=18,line=2:col=0,start=18\n" "d_width"
+    ∷ header (take 17 M) "refused 1 byte=17,line=1:col=17,start=0\n" "d_width"
+    ∷ header [] "refused 1 byte=0,line=1:col=0,start=0\n" ""
+    ∷ header (ascii "#define d_width 9\n\n") "refused 2 byte=19,line=3:col=0,start=19\n" "d_width"
     ∷ header (token "014") "refused 11\n" "d_width"
     ∷ header (token "9\r") "refused 11\n" "d_width"
     ∷ header (token "") "refused 11\n" "d_width"
     ∷ header (token "0") "refused 21\n" "d_width"
-    ∷ header (token "0 z") "refused 1 byte=19,line=1:col=19\n" "d_width"
-    ∷ header (token "123456789012") "refused 1 byte=27,line=1:col=27\n" "d_width"
+    ∷ header (token "0 z") "refused 1 byte=19,line=1:col=19,start=0\n" "d_width"
+    ∷ header (token "123456789012") "refused 1 byte=27,line=1:col=27,start=0\n" "d_width"
     ∷ picture (spotted "3" "4") "width 9\nheight 1\nhotspot 3 4\nink 1\n" (0 ∷ replicate 8 255)
     ∷ picture (spotted "-5" "-2147483648") "width 9\nheight 1\nhotspot -5 -2147483648\nink 1\n" (0 ∷ replicate 8 255)
     ∷ []

@@ -53,14 +53,14 @@ module _ (text name pixels : List ℕ) (short : length text ≤ 65536) where
   abbrev told : Result (Head × List ℕ) → Outcome Head
   told = outcome (λ (p : Head × List ℕ). p .0)
 
-  place-small : (p : TextLocation) → Reach text start p → (p .byte .0 < 2 ^ 64) × (p .line .0 < 2 ^ 64) × (p .column .0 < 2 ^ 64)
+  place-small : (p : TextLocation) → Reach text start p → (p .byte .0 < 2 ^ 64) × (p .line .0 < 2 ^ 64) × (p .column .0 < 2 ^ 64) × (p .start .0 < 2 ^ 64)
   place-small p w =
       let s : Sound p = walk-sound w start-sound in
       let b : byteOf p ≤ length text = reach-inside text start w (omega arith) in
-      (omega arith, omega (arith, s .line), omega (arith, s .column))
+      (omega arith, omega (arith, s .line), omega (arith, s .start), omega (arith, s .start))
 
   stopped-small : (c : ℕ) (p : TextLocation) → c ≤ 8 → picture (length name) (length pixels) text start ≡ stop c p → Printable (refused c p)
-  stopped-small c p l q = let (b, i, j) = place-small p (rw q at (picture-local (length name) (length pixels) .reach text start)) in (omega arith, b, i, j)
+  stopped-small c p l q = let (b, i, j, k) = place-small p (rw q at (picture-local (length name) (length pixels) .reach text start)) in (omega arith, b, i, j, k)
 
   printable : Printable (reading text name pixels .answer)
   unfolding reading picture _>>=_ give

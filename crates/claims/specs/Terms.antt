@@ -7,6 +7,7 @@ use mathlib.Core.Option.{Option, none, some}
 use mathlib.Core.List.{List, _++_}
 use lib.ListN.{length, take, drop, getElem?}
 use lib.IntN.{ℤ}
+use Rattle.text.specs.declared.TextLocation.{TextLocation}
 use Rattle.text.specs.Ascii.{ascii}
 use Rattle.text.specs.Outcome.{Outcome, accepted, refused, unplaced}
 use Rattle.header.specs.Header.{Head}
@@ -87,6 +88,10 @@ Opening = Star Skipped · Lit "#define" · Gap
 abbrev pub over : List ℕ → List ℕ → List ℕ
 over w lent = w ++ drop (length w) lent
 
+-- start and column of a place make up its byte
+abbrev pub Aligned : TextLocation → Type 0
+Aligned p = p .start .0 + p .column .0 ≡ p .byte .0
+
 -- ---- what the program prints
 
 -- a quoted word and a number
@@ -101,5 +106,5 @@ HotWords (some (x, y)) = Coordinate x · Lit " " · Coordinate y
 -- the lines of an answer, with the ink where it is accepted
 abbrev pub Lines : Outcome Head → ℕ → Lang
 Lines (accepted h) ink = (Field "width " (h .width) · Field "\nheight " (h .height)) · (Lit "\nhotspot " · HotWords (h .hot)) · (Field "\nink " ink · Lit "\n")
-Lines (refused c p) ink = Field "refused " c · (Field " byte=" (p .byte .0) · Field ",line=" (p .line .0) · Field ":col=" (p .column .0)) · Lit "\n"
+Lines (refused c p) ink = Field "refused " c · (Field " byte=" (p .byte .0) · Field ",line=" (p .line .0) · Field ":col=" (p .column .0) · Field ",start=" (p .start .0)) · Lit "\n"
 Lines (unplaced c) ink = Field "refused " c · Lit "\n"

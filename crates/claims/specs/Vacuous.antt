@@ -52,8 +52,8 @@ abbrev answer : ℕ → ℕ → Outcome Head
 answer n cells = reading (take n M) name (replicate cells 7) .answer
 
 computed : (reading (take 65 M) name pixels .pixels ≡ 0 ∷ 255 ∷ 255 ∷ 255 ∷ 255 ∷ 255 ∷ 255 ∷ 255 ∷ 7 ∷ [])
-    × (answer 71 9 ≡ refused 7 (placeOf 71 3 34)) × (answer 72 9 ≡ accepted (headOf mask)) × (answer 60 9 ≡ refused 5 (placeOf 60 3 23))
-    × (answer 64 8 ≡ refused 6 (placeOf 64 3 27)) × (answer 65 8 ≡ unplaced 31) × (answer 71 18 ≡ refused 7 (placeOf 71 3 34)) × (answer 72 18 ≡ unplaced 31)
+    × (answer 71 9 ≡ refused 7 (placeOf 71 3 34 37)) × (answer 72 9 ≡ accepted (headOf mask)) × (answer 60 9 ≡ refused 5 (placeOf 60 3 23 37))
+    × (answer 64 8 ≡ refused 6 (placeOf 64 3 27 37)) × (answer 65 8 ≡ unplaced 31) × (answer 71 18 ≡ refused 7 (placeOf 71 3 34 37)) × (answer 72 18 ≡ unplaced 31)
 unfolding after rest _>>=_ give want need one run fork eot isBlank isLoose byte skip fixed gap lineEnd leading token hexOf hexv hexDigit isMark hexStart hexDigits hexUnit isDigit digitsFrom restOf endsWith before positive widthLine element arrayLine header item items brace closing tail trailer logOf cell painted whole picture reading
 computed = (refl, refl, refl, refl, refl, refl, refl, refl)
 
@@ -97,7 +97,7 @@ pub last-71 : at-65 .semicolon ≡ 71
 last-71 = omega (arith, one-last 59 M _ _ (at-65 .last) (at-71 .last), one-last 59 M _ _ (at-65 .last) (at-72 .last), below, above)
   where
     below : 71 ≤ at-71 .semicolon
-    below = at-71 .refuses .0 (λ h q. (let x : refused 7 (placeOf 71 3 34) ≡ accepted h = sym (computed .1) ∙ q in let z : _≡_ {A = ℕ} 0 1 = cc in omega arith))
+    below = at-71 .refuses .0 (λ h q. (let x : refused 7 (placeOf 71 3 34 37) ≡ accepted h = sym (computed .1) ∙ q in let z : _≡_ {A = ℕ} 0 1 = cc in omega arith))
 
     above : at-72 .semicolon < 72
     above = go (decLt (at-72 .semicolon) 72)
@@ -112,13 +112,13 @@ pub few-65 : Mismatched (length name) (take 65 M) (replicate 8 7)
 few-65 = mismatches (take 65 M) name (replicate 8 7) .0 (computed .5)
 
 pub not-few-64 : Mismatched (length name) (take 64 M) (replicate 8 7) → ⊥
-not-few-64 x = let e : refused 6 (placeOf 64 3 27) ≡ unplaced 31 = sym (computed .4) ∙ mismatches (take 64 M) name (replicate 8 7) .1 x in let z : _≡_ {A = ℕ} 0 1 = cc in omega arith
+not-few-64 x = let e : refused 6 (placeOf 64 3 27 37) ≡ unplaced 31 = sym (computed .4) ∙ mismatches (take 64 M) name (replicate 8 7) .1 x in let z : _≡_ {A = ℕ} 0 1 = cc in omega arith
 
 pub many-72 : Mismatched (length name) (take 72 M) (replicate 18 7)
 many-72 = mismatches (take 72 M) name (replicate 18 7) .0 (computed .7)
 
 pub not-many-71 : Mismatched (length name) (take 71 M) (replicate 18 7) → ⊥
-not-many-71 x = let e : refused 7 (placeOf 71 3 34) ≡ unplaced 31 = sym (computed .6) ∙ mismatches (take 71 M) name (replicate 18 7) .1 x in let z : _≡_ {A = ℕ} 0 1 = cc in omega arith
+not-many-71 x = let e : refused 7 (placeOf 71 3 34 37) ≡ unplaced 31 = sym (computed .6) ∙ mismatches (take 71 M) name (replicate 18 7) .1 x in let z : _≡_ {A = ℕ} 0 1 = cc in omega arith
 
 -- ---- the header is refused up to its last byte
 

@@ -99,6 +99,10 @@ three-words : (K L M : Lang) (u v w : List ℕ) → K u → L v → M w → (K �
 unfolding _·_ joined
 three-words K L M u v w k l m = (u, v ++ w, ap (λ (x : List ℕ). u ++ (v ++ x)) (append-nil w), k, (v, w, refl, l, m))
 
+four-words : (J K L M : Lang) (t u v w : List ℕ) → J t → K u → L v → M w → (J · K · L · M) (joined (t ∷ u ∷ v ∷ w ∷ []))
+unfolding _·_ joined
+four-words J K L M t u v w j k l m = (t, u ++ (v ++ w), ap (λ (x : List ℕ). t ++ (u ++ (v ++ x))) (append-nil w), j, (u, v ++ w, refl, k, (v, w, refl, l, m)))
+
 quoted : (s : String) → Word (ascii s) (ascii s)
 unfolding Word
 quoted s = refl
@@ -113,7 +117,7 @@ Hots (some (x, y)) = InRange x × InRange y
 
 abbrev pub Printable : Outcome Head → Type 0
 Printable (accepted h) = (h .width < 2 ^ 64) × (h .height < 2 ^ 64) × Hots (h .hot)
-Printable (refused c p) = (c < 2 ^ 64) × (p .byte .0 < 2 ^ 64) × (p .line .0 < 2 ^ 64) × (p .column .0 < 2 ^ 64)
+Printable (refused c p) = (c < 2 ^ 64) × (p .byte .0 < 2 ^ 64) × (p .line .0 < 2 ^ 64) × (p .column .0 < 2 ^ 64) × (p .start .0 < 2 ^ 64)
 Printable (unplaced c) = c < 2 ^ 64
 
 hots : (o : Option (ℤ × ℤ)) → Hots o → HotWords o (hotText o)
@@ -124,6 +128,6 @@ pub lines : (a : Outcome Head) (k : ℕ) → Printable a → k < 2 ^ 64 → Line
 lines (accepted h) k (w, z, o) l =
     three-words _ _ _ _ _ _ (both-words _ _ _ _ (field "width " (h .width) w) (field "\nheight " (h .height) z))
     (both-words _ _ _ _ (quoted "\nhotspot ") (hots (h .hot) o)) (both-words _ _ _ _ (field "\nink " k l) (quoted "\n"))
-lines (refused c p) k (n, b, i, j) l =
-    three-words _ _ _ _ _ _ (field "refused " c n) (three-words _ _ _ _ _ _ (field " byte=" (p .byte .0) b) (field ",line=" (p .line .0) i) (field ":col=" (p .column .0) j)) (quoted "\n")
+lines (refused c p) k (n, b, i, j, s) l =
+    three-words _ _ _ _ _ _ (field "refused " c n) (four-words _ _ _ _ _ _ _ _ (field " byte=" (p .byte .0) b) (field ",line=" (p .line .0) i) (field ":col=" (p .column .0) j) (field ",start=" (p .start .0) s)) (quoted "\n")
 lines (unplaced c) k n l = both-words _ _ _ _ (field "refused " c n) (quoted "\n")

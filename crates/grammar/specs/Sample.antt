@@ -29,7 +29,7 @@ maskM = record { name = ascii "d"; width = 9; height = 1; hot = none; bytes = 1 
 
 pub writes-M : Format 256 maskM textM
 unfolding after rest _>>=_ give want need one run fork eot isBlank isLoose byte skip fixed gap lineEnd leading token hexOf hexv hexDigit isMark hexStart hexDigits hexUnit isDigit digitsFrom restOf endsWith before positive widthLine element arrayLine header item items brace closing tail body front text
-writes-M = exactly 256 maskM textM .0 (placeOf 73 4 0, refl)
+writes-M = exactly 256 maskM textM .0 (placeOf 73 4 0 73, refl)
 
 -- an empty name, leading lines, a hotspot outside the picture, blanks, either case, a comma at the end
 abbrev textX : List ℕ

@@ -1,11 +1,11 @@
 -- What a step of the code says of the lexical rules.
-use Prim.Native.Nat.{ℕ, _+_, _<_, _≤_}
+use Prim.Native.Nat.{ℕ, _+_, _*_, _^_, _<_, _≤_}
 use native.Mathlib.Numerals.{add-one}
 use native.Mathlib.Omega.{arith}
 use mir.Syntax.{w32}
 use mir.Val.{Fits}
 use borrow.Author.Tests.{eq-eqb, ne-eqb}
-use mathlib.Core.Path.{_≡_, refl, sym}
+use mathlib.Core.Path.{_≡_, refl, sym, ap, _∙_}
 use mathlib.Core.Option.{some}
 use mathlib.Core.List.{List, []}
 use mathlib.Core.Bool.{Bool, true, false}
@@ -14,10 +14,10 @@ use lib.Seq.{drop-cons}
 use Rattle.text.specs.declared.TextLocation.{TextLocation}
 use Rattle.text.specs.declared.Took.{Took}
 use Rattle.text.specs.declared.Took.the-variants.{Next, End}
-use Rattle.text.specs.Place.{tookAt}
+use Rattle.text.specs.Place.{pastByte, tookAt}
 use Rattle.text.specs.Reader.{Result, ok, stop, then, Reader, _>>=_, _>>_}
 use Rattle.text.specs.Leaf.{give}
-use Rattle.text.proofs.Laws.{next-less}
+use Rattle.text.proofs.Laws.{next-less, next-past}
 use Rattle.text.proofs.Reading.{bind-ok, bind-stop, bind·laws, one-ok, one-stop, one-end, run-on, run-stay, run-end}
 use Rattle.lexical.specs.declared.XbmPart.{XbmPart}
 use Rattle.lexical.specs.declared.XbmPart.the-variants.{Width, Height, HotspotX, HotspotY, Array, Data, ArrayEnd, Trailing}
@@ -157,9 +157,11 @@ module _ (c : ℕ) (w : List ℕ) (n : ℕ) (t : List ℕ) (i : TextLocation) {z
   fixed-done l v = rw (drop-of-length-le w l) at v
 
   module _ (l : n < length w) {r : Took} (e : r ≡ tookAt t i) where
-    pub fixed-again : {b : ℕ} {q : TextLocation} → r ≡ Next b q → b ≡ getD w n 0 → fixed c (drop n w) t i ≡ z → fixed c (drop (n + 1) w) t q ≡ z
+    pub fixed-again : {b : ℕ} {q p : TextLocation} → length t * 1 < 2 ^ 63 → r ≡ Next b q → b ≡ getD w n 0 → p ≡ pastByte i (getD w n 0) → fixed c (drop n w) t i ≡ z → fixed c (drop (n + 1) w) t p ≡ z
     unfolding fixed _>>=_
-    fixed-again m h v = rw add-one (rw (drop-cons w n 0 l, ← byte-is c (getD w n 0) t i e m h) at v)
+    fixed-again {b} {q} {p} s m h k v =
+        let y : p ≡ q = k ∙ ap (pastByte i) (sym h) ∙ next-past t i s e m in
+        rw (add-one, y) (rw (drop-cons w n 0 l, ← byte-is c (getD w n 0) t i e m h) at v)
 
     pub fixed-wrong : {b : ℕ} {q : TextLocation} → r ≡ Next b q → (b ≡ getD w n 0 → ⊥) → fixed c (drop n w) t i ≡ z → stop c q ≡ z
     unfolding fixed _>>=_

@@ -5,6 +5,7 @@ ghost use Rattle.lexical.specs.Lexical.{isBlank, isLoose, spaceOf, numbe
 ghost use Rattle.lexical.specs.Token.{Tokened};
 use text::TextLocation;
 use text::Took;
+use text::past_byte;
 use text::take;
 
 // The part of the file in which a rule is broken.
@@ -152,24 +153,25 @@ pub fn read_to_newline(text: &[u8], place: TextLocation, part: XbmPart) -> Passe
     }
 }
 
-// Read precisely the string `s`.
+// Read precisely the string `s`. Past the right byte the place is made of that byte, so that no newline is looked for where it is none.
 pub fn read_fixed_string(text: &[u8], place: TextLocation, s: &[u8], part: XbmPart) -> Passed
     ensures { λ r. ⌜ told r ≡ fixed (number part) (now (s .entry)) (now (text .entry)) place ⌝ }
 {
     let mut at = place;
     let mut i = 0;
     while i < s.len() {
+        let right = s[i];
+        i += 1;
         match take(text, at) {
             Took::Next(b, next) => {
-                if b == s[i] {
-                    at = next;
+                if b == right {
+                    at = past_byte(at, right);
                 } else {
                     return Passed::Refused(part, next);
                 }
             }
             Took::End => return Passed::Refused(part, at),
         }
-        i += 1;
     }
     Passed::To(at)
 }

@@ -14,7 +14,7 @@ use Rattle.text.specs.declared.TextLocation.{TextLocation}
 use Rattle.text.specs.Outcome.{Outcome, accepted, refused, unplaced}
 use Rattle.header.specs.Header.{Head}
 use Rattle.image.specs.Limited.{limited}
-use Rattle.print.specs.Output.{length-joined-two, length-joined-three}
+use Rattle.print.specs.Output.{length-joined-two, length-joined-three, length-joined-four}
 use Rattle.print.specs.Decimal.{decimal, signed, digits-short, signed-short}
 use Rattle.printing.specs.Printed.{fieldText, hotText, sidesText, hotspotText, inkText, acceptedText, placeText, printed}
 use Rattle.listing.specs.Listing.{textLimit, cellLimit, unread, listedOf, listedWithin, listed, listing}
@@ -42,21 +42,22 @@ accepted-short h k =
       field-short (ascii "\nink ") k,
     )
 
-place-short : (p : TextLocation) → length (placeText p) ≤ 77
+place-short : (p : TextLocation) → length (placeText p) ≤ 104
 place-short p =
     omega (
       arith,
-      length-joined-three (fieldText (ascii " byte=") (p .byte .0)) (fieldText (ascii ",line=") (p .line .0)) (fieldText (ascii ":col=") (p .column .0)),
+      length-joined-four (fieldText (ascii " byte=") (p .byte .0)) (fieldText (ascii ",line=") (p .line .0)) (fieldText (ascii ":col=") (p .column .0)) (fieldText (ascii ",start=") (p .start .0)),
       field-short (ascii " byte=") (p .byte .0),
       field-short (ascii ",line=") (p .line .0),
       field-short (ascii ":col=") (p .column .0),
+      field-short (ascii ",start=") (p .start .0),
     )
 
-refused-short : (c : ℕ) (p : TextLocation) (k : ℕ) → length (printed (refused c p) k) ≤ 106
+refused-short : (c : ℕ) (p : TextLocation) (k : ℕ) → length (printed (refused c p) k) ≤ 133
 refused-short c p k =
     omega (arith, length-joined-three (fieldText (ascii "refused ") c) (placeText p) (ascii "\n"), field-short (ascii "refused ") c, place-short p)
 
--- 133 is a refusal with one number more in its place, such as `,start=` and 20 digits
+-- 133 is a refusal with a place, each of its five numbers of 20 digits
 pub printed-short : (a : Outcome Head) (k : ℕ) → length (printed a k) ≤ 133
 printed-short (accepted h) k = omega (arith, accepted-short h k)
 printed-short (refused c p) k = omega (arith, refused-short c p k)

@@ -80,19 +80,19 @@ gone-1 : (t : List ℕ) (p : TextLocation) → ((v : List ℕ) → reading (t ++
 gone-1 t p q v (s, b) = row-1 (t ++ v) name [] .0 (p, q v) s b
 
 -- a byte after the token's blanks
-wrong : (reading (ascii "#define d_width 9 x\n") name [] .answer ≡ refused 1 (placeOf 19 1 19)) × Savable (ascii "#define d_width 9 x\n") (placeOf 19 1 19) (Width 256)
+wrong : (reading (ascii "#define d_width 9 x\n") name [] .answer ≡ refused 1 (placeOf 19 1 19 0)) × Savable (ascii "#define d_width 9 x\n") (placeOf 19 1 19 0) (Width 256)
 unfolding after rest _>>=_ give want one run isBlank isLoose byte skip fixed gap lineEnd leading token endsWith before widthLine header picture reading
-wrong = (refl, taken 18 refl (ascii "\n", sound (ascii "9") (ascii " ") ((refl, tt), omega arith) (refl, tt)) (gone-1 (ascii "#define d_width 9 x") (placeOf 19 1 19) (λ v. refl)))
+wrong = (refl, taken 18 refl (ascii "\n", sound (ascii "9") (ascii " ") ((refl, tt), omega arith) (refl, tt)) (gone-1 (ascii "#define d_width 9 x") (placeOf 19 1 19 0) (λ v. refl)))
 
 -- no newline
-ends : (reading (ascii "#define d_width 9") name [] .answer ≡ refused 1 (placeOf 17 1 17)) × Savable (ascii "#define d_width 9") (placeOf 17 1 17) (Width 256)
+ends : (reading (ascii "#define d_width 9") name [] .answer ≡ refused 1 (placeOf 17 1 17 0)) × Savable (ascii "#define d_width 9") (placeOf 17 1 17 0) (Width 256)
 unfolding after rest _>>=_ give want one run isBlank isLoose byte skip fixed gap lineEnd leading token endsWith before widthLine header picture reading
 ends = (refl, ended refl (ascii "\n", sound (ascii "9") [] ((refl, tt), omega arith) tt))
 
 -- a token of twelve bytes
-too-long : (reading (ascii "#define d_width 123456789012\n") name [] .answer ≡ refused 1 (placeOf 27 1 27)) × SavableLine (ascii "#define d_width 123456789012\n") (placeOf 27 1 27) (BeforeWidth 256) (Width 256)
+too-long : (reading (ascii "#define d_width 123456789012\n") name [] .answer ≡ refused 1 (placeOf 27 1 27 0)) × SavableLine (ascii "#define d_width 123456789012\n") (placeOf 27 1 27 0) (BeforeWidth 256) (Width 256)
 unfolding after rest _>>=_ give want one run isBlank isLoose byte skip fixed gap lineEnd leading token endsWith before widthLine header picture reading
-too-long = (refl, long (ascii "#define d_width ", ascii "12345678901", 50, ascii "\n", refl, (ascii "d", headed), refl, refl, all) (ascii "\n", sound (ascii "12345678901") [] (all-but, omega arith) tt) (gone-1 (ascii "#define d_width 123456789012") (placeOf 27 1 27) (λ v. refl)))
+too-long = (refl, long (ascii "#define d_width ", ascii "12345678901", 50, ascii "\n", refl, (ascii "d", headed), refl, refl, all) (ascii "\n", sound (ascii "12345678901") [] (all-but, omega arith) tt) (gone-1 (ascii "#define d_width 123456789012") (placeOf 27 1 27 0) (λ v. refl)))
   where
     all : All solid (ascii "123456789012")
     all = (refl, (refl, (refl, (refl, (refl, (refl, (refl, (refl, (refl, (refl, (refl, (refl, tt))))))))))))
@@ -103,17 +103,17 @@ too-long = (refl, long (ascii "#define d_width ", ascii "12345678901", 50, ascii
 -- ---- the width's symbol, refused too late
 
 -- with a name buffer of 6 bytes, where the symbol ends and where it is too long
-without : reading (ascii "#define a ") (replicate 6 0) [] .answer ≡ refused 1 (placeOf 9 1 9)
+without : reading (ascii "#define a ") (replicate 6 0) [] .answer ≡ refused 1 (placeOf 9 1 9 0)
 unfolding after rest _>>=_ give want one run isBlank isLoose byte skip fixed gap leading token endsWith before widthLine header picture reading
 without = refl
 
-full : reading (ascii "#define a_width") (replicate 6 0) [] .answer ≡ refused 1 (placeOf 14 1 14)
+full : reading (ascii "#define a_width") (replicate 6 0) [] .answer ≡ refused 1 (placeOf 14 1 14 0)
 unfolding after rest _>>=_ give want one run isBlank isLoose byte skip fixed gap leading token endsWith before widthLine header picture reading
 full = refl
 
-late : Stuck 6 (ascii "#define a ") (placeOf 9 1 9)
+late : Stuck 6 (ascii "#define a ") (placeOf 9 1 9 0)
 unfolding after rest _>>=_ give want one run isBlank isLoose byte skip fixed gap leading token endsWith before opening front widths named
-late = stuck 6 (ascii "#define a ") (placeOf 9 1 9) refl (placeOf 8 1 8) refl refl
+late = stuck 6 (ascii "#define a ") (placeOf 9 1 9 0) refl (placeOf 8 1 8 0) refl refl
 
 -- the bytes before the symbol can be saved; those up to the place cannot, for `a_width` has 7 bytes
 before-it : Can (Width 6) (late .bad .fore)
@@ -128,17 +128,17 @@ gone : Lost (Width 6) (ascii "#define a")
 gone v k = let (z, s, x) = exactly 6 (ascii "#define ") opens (ascii "a") (refl, tt) .0 (v, k) in no-symbol z s x
 
 -- so without the exception the claim would be false: `#define ab ` is refused at byte 10, and nine of its bytes are lost already
-after-all : reading (ascii "#define ab ") (replicate 6 0) [] .answer ≡ refused 1 (placeOf 10 1 10)
+after-all : reading (ascii "#define ab ") (replicate 6 0) [] .answer ≡ refused 1 (placeOf 10 1 10 0)
 unfolding after rest _>>=_ give want one run isBlank isLoose byte skip fixed gap leading token endsWith before widthLine header picture reading
 after-all = refl
 
-no-other : Savable (ascii "#define ab ") (placeOf 10 1 10) (Width 6) → ⊥
+no-other : Savable (ascii "#define ab ") (placeOf 10 1 10 0) (Width 6) → ⊥
 no-other (taken n q (v, k) g) = let e : n ≡ 9 = omega arith in gone v (rw e at k)
 no-other (ended q c) = omega arith
 
 -- ---- no room for any symbol
 
-nothing : (reading [] (replicate 5 0) [] .answer ≡ refused 1 (placeOf 0 1 0)) × Savable [] (placeOf 0 1 0) (Begun Opening)
+nothing : (reading [] (replicate 5 0) [] .answer ≡ refused 1 (placeOf 0 1 0 0)) × Savable [] (placeOf 0 1 0 0) (Begun Opening)
 unfolding rest _>>=_ run leading header picture reading
 nothing = (refl, ended refl (ascii "#define ", (ascii "#define ", [], refl, opens)))
 
@@ -160,7 +160,7 @@ Bytes m k t = (l : List ℕ) × (length l ≡ k) × Begun (Header 256 m · Data 
 
 by-6 : (m : Mask) × (k : ℕ) × (Can (Bytes m k) (take 68 T6) × Lost (Bytes m k) (take 69 T6))
 unfolding after rest _>>=_ give want need one run fork eot isBlank isLoose byte skip fixed gap lineEnd leading token hexOf hexv hexDigit isMark hexStart hexDigits hexUnit isDigit digitsFrom restOf endsWith before positive widthLine element arrayLine header item items whole picture reading
-by-6 = let (m, k, r, b, s) = earliest T6 name pixels 6 (placeOf 69 3 32) refl .n6 refl in (m, k, only-taken T6 (placeOf 69 3 32) 68 refl (omega arith) s)
+by-6 = let (m, k, r, b, s) = earliest T6 name pixels 6 (placeOf 69 3 32 37) refl .n6 refl in (m, k, only-taken T6 (placeOf 69 3 32 37) 68 refl (omega arith) s)
 
 -- 8: a byte after the closing
 abbrev T8 : List ℕ
@@ -168,4 +168,4 @@ T8 = ascii "#define d_width 9\n#define d_height 1\nstatic char d_bits[] = {0x01,
 
 by-8 : (m : Mask) × (Can (Format 256 m) (take 73 T8) × Lost (Format 256 m) (take 74 T8))
 unfolding after rest _>>=_ give want need one run fork eot isBlank isLoose byte skip fixed gap lineEnd leading token hexOf hexv hexDigit isMark hexStart hexDigits hexUnit isDigit digitsFrom restOf endsWith before positive widthLine element arrayLine header item items brace closing tail trailer whole picture reading
-by-8 = let (m, h, l, b, s) = earliest T8 name pixels 8 (placeOf 74 4 1) refl .n8 refl in (m, only-taken T8 (placeOf 74 4 1) 73 refl (omega arith) s)
+by-8 = let (m, h, l, b, s) = earliest T8 name pixels 8 (placeOf 74 4 1 73) refl .n8 refl in (m, only-taken T8 (placeOf 74 4 1 73) 73 refl (omega arith) s)

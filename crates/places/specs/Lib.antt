@@ -4,6 +4,7 @@ pub mod Counts
 pub mod Sharp
 pub mod Looks
 pub mod Looking
+pub mod Opening
 pub mod Telling
 pub mod Places
 pub mod Vacuous

@@ -17,6 +17,7 @@ use Rattle.header.specs.Header.{Head}
 use Rattle.image.specs.Reading.{picture, reading}
 use Rattle.grammar.specs.Bind.{past-byte}
 use Rattle.grammar.specs.Exact.{start-rest}
+use Rattle.claims.specs.Terms.{Aligned}
 use Rattle.claims.specs.Cuts.{walk-past}
 use Rattle.places.specs.Terms.{Counted, Ahead, Looked, long-symbol, no-width, long-token, Settled, How, ended, wrong, looked}
 use Rattle.places.specs.Sharp.{ends, decided, saw, Sure}
@@ -75,6 +76,9 @@ module _ (t name pixels : List ℕ) (c : ℕ) (p : TextLocation) (a : reading t 
   reached : Reach t start p
   reached = rw at-it at (picture-checks limit cells .near .reach t start)
 
+  pub aligned : Aligned p
+  aligned = walk-sound reached start-sound .start
+
   pub inside : byteOf p ≤ length t
   inside = reach-inside t start reached (omega arith)
 
@@ -84,10 +88,7 @@ module _ (t name pixels : List ℕ) (c : ℕ) (p : TextLocation) (a : reading t 
       (sym (past-byte start (take (byteOf p) t) ∙ omega (arith, length-take-le (byteOf p) t inside)))
 
   pub counted : Counted (take (byteOf p) t) p
-  counted = go there
-    where
-      go : {q : TextLocation} → q ≡ past start (take (byteOf p) t) → Counted (take (byteOf p) t) q
-      go e = rw e (Counts.counted (take (byteOf p) t))
+  counted = Counts.counted-at (take (byteOf p) t) there
 
   all-of : rest t p ≡ [] → byteOf p ≡ length t
   all-of e = omega (arith, inside, length-drop (byteOf p) t, ap length (sym (sound-rest t p (walk-sound reached start-sound)) ∙ e))

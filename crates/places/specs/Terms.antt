@@ -2,8 +2,8 @@
 -- No reader is in them.
 use mathlib.Core.Path.{_≡_}
 use mathlib.Core.Logic.{_⊎_}
-use Prim.Native.Nat.{ℕ, _+_, _≤_, _<_, min}
-use mathlib.Core.Bool.{true, false, not}
+use Prim.Native.Nat.{ℕ, zero, suc, _+_, _-_, _≤_, _<_, min}
+use mathlib.Core.Bool.{Bool, true, false, not}
 use mathlib.Core.List.{List, [], _∷_, _++_}
 use lib.ListN.{length, take}
 use lib.Dec.{eqb}
@@ -34,6 +34,27 @@ pub record Counted (taken : List ℕ) (p : TextLocation) : Type 0 where
   pub line : p .line .0 ≡ min (1 + newlines taken) 18446744073709551615
   -- column: how many are begun
   pub column : p .column .0 ≡ length begun
+  -- start: how many are whole lines
+  pub start : p .start .0 ≡ length whole
+
+-- the line start of one byte more in front, a newline or not, by that of the bytes after it: one further on, or after the newline
+abbrev pub sooner : Bool → ℕ → ℕ
+sooner d (suc n) = suc (suc n)
+sooner true zero = 1
+sooner false zero = 0
+
+-- where the line starts that some bytes end in: how many there are up to the last newline, and with it; 0 without one
+abbrev pub lineStart : List ℕ → ℕ
+lineStart [] = 0
+lineStart (b ∷ w) = sooner (eqb b 10) (lineStart w)
+
+-- q is the place after p and the bytes w, by what p tells
+pub record Onward (p : TextLocation) (w : List ℕ) (q : TextLocation) : Type 0 where
+  pub byte : q .byte .0 ≡ p .byte .0 + length w
+  pub line : p .line .0 ≤ 18446744073709551615 → q .line .0 ≡ min (p .line .0 + newlines w) 18446744073709551615
+  -- on the same line; or on one that starts behind the last newline of w
+  pub same : lineStart w ≡ 0 → (q .column .0 ≡ p .column .0 + length w) × (q .start .0 ≡ p .start .0)
+  pub next : 0 < lineStart w → (q .column .0 ≡ length w - lineStart w) × (q .start .0 ≡ p .byte .0 + lineStart w)
 
 -- ---- the three checks that only look ahead
 

@@ -61,20 +61,20 @@ further {p = p} {q = q} e h = let z : q ≡ p = cc in let y : byteOf q ≡ byteO
 abbrev M : List ℕ
 M = ascii "#define d_width 9\n#define d_height 1\nstatic char d_bits[] = {0x01,0x00};\n"
 
-pub ends-at-17 : (answer (take 17 M) name ≡ refused 1 (placeOf 17 1 17)) × How (take 17 M) name pixels 1 (placeOf 17 1 17) × (Wrong (take 17 M) name 1 (placeOf 17 1 17) → ⊥)
+pub ends-at-17 : (answer (take 17 M) name ≡ refused 1 (placeOf 17 1 17 0)) × How (take 17 M) name pixels 1 (placeOf 17 1 17 0) × (Wrong (take 17 M) name 1 (placeOf 17 1 17 0) → ⊥)
 unfolding computing
 ends-at-17 = (refl, ended refl, λ h. further (h (ascii "\n")) (omega arith))
 
 -- ---- the byte just before is the wrong one: `i` after `#`; and a newline, told on the following line
 
-pub wrong-at-2 : (answer (ascii "#include\n") name ≡ refused 1 (placeOf 2 1 2)) × How (ascii "#include\n") name pixels 1 (placeOf 2 1 2)
+pub wrong-at-2 : (answer (ascii "#include\n") name ≡ refused 1 (placeOf 2 1 2 0)) × How (ascii "#include\n") name pixels 1 (placeOf 2 1 2 0)
 unfolding computing
 wrong-at-2 = (refl, wrong (omega arith) (λ v. refl))
 
 abbrev two-newlines : List ℕ
 two-newlines = ascii "#define d_width 9\n\n#define d_height 1\n"
 
-pub wrong-at-19 : (answer two-newlines name ≡ refused 2 (placeOf 19 3 0)) × How two-newlines name pixels 2 (placeOf 19 3 0)
+pub wrong-at-19 : (answer two-newlines name ≡ refused 2 (placeOf 19 3 0 19)) × How two-newlines name pixels 2 (placeOf 19 3 0 19)
 unfolding computing
 wrong-at-19 = (refl, wrong (omega arith) (λ v. refl))
 
@@ -122,7 +122,7 @@ seven = replicate 7 0
 abbrev eight : List ℕ
 eight = ascii "#define d_widthx 9\n"
 
-pub looks-at-15 : (answer eight seven ≡ refused 1 (placeOf 15 1 15)) × How eight seven pixels 1 (placeOf 15 1 15) × (Wrong eight seven 1 (placeOf 15 1 15) → ⊥)
+pub looks-at-15 : (answer eight seven ≡ refused 1 (placeOf 15 1 15 0)) × How eight seven pixels 1 (placeOf 15 1 15 0) × (Wrong eight seven 1 (placeOf 15 1 15 0) → ⊥)
 unfolding computing
 looks-at-15 = (
   refl,
@@ -134,7 +134,7 @@ looks-at-15 = (
 abbrev wide : List ℕ
 wide = ascii "#define d_wide 9\n"
 
-pub looks-at-14 : (answer wide name ≡ refused 1 (placeOf 14 1 14)) × How wide name pixels 1 (placeOf 14 1 14) × (Wrong wide name 1 (placeOf 14 1 14) → ⊥)
+pub looks-at-14 : (answer wide name ≡ refused 1 (placeOf 14 1 14 0)) × How wide name pixels 1 (placeOf 14 1 14 0) × (Wrong wide name 1 (placeOf 14 1 14 0) → ⊥)
 unfolding computing
 looks-at-14 = (
   refl,
@@ -182,30 +182,30 @@ Long u c p = (answer (u ++ twelve) name ≡ refused c p) × How (u ++ twelve) na
 too-long : (c : ℕ) (u : List ℕ) (p : TextLocation) → Lead 256 c u → byteOf p ≡ length (u ++ eleven) → Looked 256 (u ++ twelve) p c
 too-long c u p l q = long-token c u eleven 50 (ascii "\n", refl, q) l (all-test solid eleven refl) refl refl
 
-pub looks-at-27 : Long (ascii "#define d_width ") 1 (placeOf 27 1 27)
+pub looks-at-27 : Long (ascii "#define d_width ") 1 (placeOf 27 1 27 0)
 unfolding computing
-looks-at-27 = (refl, looked (too-long 1 (ascii "#define d_width ") (placeOf 27 1 27) (width (ascii "d") lead) refl) (λ v. refl), λ h. other (h (ascii "\n")))
+looks-at-27 = (refl, looked (too-long 1 (ascii "#define d_width ") (placeOf 27 1 27 0) (width (ascii "d") lead) refl) (λ v. refl), λ h. other (h (ascii "\n")))
   where
     lead : (Star Skipped · Named (Symbol 256 (ascii "d"))) (ascii "#define d_width ")
     lead = both (Star Skipped) (Named (Symbol 256 (ascii "d"))) [] (ascii "#define d_width ") stop (named (Symbol 256 (ascii "d")) (ascii "d_width") (unfold Symbol in (refl, (refl, tt), omega arith)))
 
-pub looks-at-46 : Long (ascii "#define d_width 9\n#define d_height ") 2 (placeOf 46 2 28)
+pub looks-at-46 : Long (ascii "#define d_width 9\n#define d_height ") 2 (placeOf 46 2 28 18)
 unfolding computing
-looks-at-46 = (refl, looked (too-long 2 (ascii "#define d_width 9\n#define d_height ") (placeOf 46 2 28) (height mask lead) refl) (λ v. refl), λ h. other (h (ascii "\n")))
+looks-at-46 = (refl, looked (too-long 2 (ascii "#define d_width 9\n#define d_height ") (placeOf 46 2 28 18) (height mask lead) refl) (λ v. refl), λ h. other (h (ascii "\n")))
   where
     lead : (Front 256 (ascii "d") (Side 9) · Named (Word (ascii "d_height"))) (ascii "#define d_width 9\n#define d_height ")
     lead = both (Front 256 (ascii "d") (Side 9)) (Named (Word (ascii "d_height"))) (ascii "#define d_width 9\n") (ascii "#define d_height ") wide-9 (named (Word (ascii "d_height")) (ascii "d_height") (unfold Word in refl))
 
-pub looks-at-64 : Long (ascii "#define d_width 9\n#define d_height 1\n#define d_x_hot ") 3 (placeOf 64 3 27)
+pub looks-at-64 : Long (ascii "#define d_width 9\n#define d_height 1\n#define d_x_hot ") 3 (placeOf 64 3 27 37)
 unfolding computing
-looks-at-64 = (refl, looked (too-long 3 (ascii "#define d_width 9\n#define d_height 1\n#define d_x_hot ") (placeOf 64 3 27) (x-hot mask lead) refl) (λ v. refl), λ h. other (h (ascii "\n")))
+looks-at-64 = (refl, looked (too-long 3 (ascii "#define d_width 9\n#define d_height 1\n#define d_x_hot ") (placeOf 64 3 27 37) (x-hot mask lead) refl) (λ v. refl), λ h. other (h (ascii "\n")))
   where
     lead : (Sides 256 mask · Named (Word (ascii "d_x_hot"))) (ascii "#define d_width 9\n#define d_height 1\n#define d_x_hot ")
     lead = both (Sides 256 mask) (Named (Word (ascii "d_x_hot"))) (ascii "#define d_width 9\n#define d_height 1\n") (ascii "#define d_x_hot ") high-1 (named (Word (ascii "d_x_hot")) (ascii "d_x_hot") (unfold Word in refl))
 
-pub looks-at-82 : Long (ascii "#define d_width 9\n#define d_height 1\n#define d_x_hot 3\n#define d_y_hot ") 4 (placeOf 82 4 27)
+pub looks-at-82 : Long (ascii "#define d_width 9\n#define d_height 1\n#define d_x_hot 3\n#define d_y_hot ") 4 (placeOf 82 4 27 55)
 unfolding computing
-looks-at-82 = (refl, looked (too-long 4 (ascii "#define d_width 9\n#define d_height 1\n#define d_x_hot 3\n#define d_y_hot ") (placeOf 82 4 27) (y-hot mask (pos 3) lead) refl) (λ v. refl), λ h. other (h (ascii "\n")))
+looks-at-82 = (refl, looked (too-long 4 (ascii "#define d_width 9\n#define d_height 1\n#define d_x_hot 3\n#define d_y_hot ") (placeOf 82 4 27 55) (y-hot mask (pos 3) lead) refl) (λ v. refl), λ h. other (h (ascii "\n")))
   where
     lead : (Third 256 mask (Coordinate (pos 3)) · Named (Word (ascii "d_y_hot"))) (ascii "#define d_width 9\n#define d_height 1\n#define d_x_hot 3\n#define d_y_hot ")
     lead = both (Third 256 mask (Coordinate (pos 3))) (Named (Word (ascii "d_y_hot"))) (ascii "#define d_width 9\n#define d_height 1\n#define d_x_hot 3\n") (ascii "#define d_y_hot ") hot-3 (named (Word (ascii "d_y_hot")) (ascii "d_y_hot") (unfold Word in refl))

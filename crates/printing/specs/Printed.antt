@@ -36,9 +36,9 @@ inkText k = joined (fieldText (ascii "\nink ") k ∷ ascii "\n" ∷ [])
 abbrev pub acceptedText : Head → ℕ → List ℕ
 acceptedText h k = joined (sidesText (h .width) (h .height) ∷ hotspotText (h .hot) ∷ inkText k ∷ [])
 
--- a place, as `byte=71,line=3:col=34`
+-- a place, as `byte=71,line=3:col=34,start=37`
 abbrev pub placeText : TextLocation → List ℕ
-placeText p = joined (fieldText (ascii " byte=") (p .byte .0) ∷ fieldText (ascii ",line=") (p .line .0) ∷ fieldText (ascii ":col=") (p .column .0) ∷ [])
+placeText p = joined (fieldText (ascii " byte=") (p .byte .0) ∷ fieldText (ascii ",line=") (p .line .0) ∷ fieldText (ascii ":col=") (p .column .0) ∷ fieldText (ascii ",start=") (p .start .0) ∷ [])
 
 abbrev pub printed : Outcome Head → ℕ → List ℕ
 printed (accepted h) k = acceptedText h k

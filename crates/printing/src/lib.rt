@@ -29,9 +29,11 @@ fn put_place(out: &mut [u8], at: usize, place: TextLocation) -> usize
     let byte = place.byte.0;
     let line = place.line.0;
     let column = place.column.0;
+    let start = place.start.0;
     let a = put_field(out, at, b" byte=", byte);
     let b = put_field(out, a, b",line=", line);
-    put_field(out, b, b":col=", column)
+    let c = put_field(out, b, b":col=", column);
+    put_field(out, c, b",start=", start)
 }
 
 // Two numbers, a space between.

@@ -5,7 +5,7 @@ use Prim.Native.Nat.{ℕ, zero, suc, _+_, _-_, _≤_, _<_}
 use native.Mathlib.Omega.{arith}
 use native.Mathlib.Decide.{decLt}
 use mathlib.Core.Option.{Option, none, some}
-use mathlib.Core.Bool.{Bool, true, false}
+use mathlib.Core.Bool.{Bool, true, false, false≢true}
 use mathlib.Core.List.{List, [], _++_, append-nil}
 use lib.ListN.{length, take, drop, take-append-drop, length-drop}
 use lib.Seq.{length-take-le}
@@ -25,13 +25,13 @@ use Rattle.grammar.specs.Bind.{bind-ok, past-byte}
 use Rattle.grammar.specs.Grammar.{Loose, Closing}
 use Rattle.grammar.specs.Fits.{Any, End, Fits, fit-then}
 use Rattle.grammar.specs.Exact.{first-fits, next-fits, closing-fits, tail-fits}
-use Rattle.claims.specs.Terms.{Begun}
+use Rattle.claims.specs.Terms.{Begun, Aligned}
 use Rattle.claims.specs.Cuts.{walk-past}
 use Rattle.claims.specs.Numbers.{Numbered, item-numbered, closing-numbered, tail-numbered, trailer-numbered, placed-number}
-use Rattle.claims.specs.Steps.{Native, next-answer, next-decoder, last-answer}
+use Rattle.claims.specs.Steps.{Native, not-foreign, next-answer, next-decoder, last-answer}
 use Rattle.refusals.specs.Terms.{Placed, No, Foreign, sizeOf, ahead, moved, Item}
 use Rattle.refusals.specs.Stages.{alone, stop-first, stop-second}
-use Rattle.refusals.specs.Calls.{foreign-exactly, of-here, last-decoder, none-given}
+use Rattle.refusals.specs.Calls.{foreign-exactly, of-here, still-native, last-decoder, none-given}
 
 item-fits : (k b : ℕ) → Fits (item (eqb k 0)) b (Unit {0}) (Item k b) Any
 item-fits zero b = first-fits b
@@ -195,3 +195,11 @@ module _ (t : List ℕ) (d : XbmStreamDecoder) (h : Foreign t d → ⊥) where
       go : (k < sizeOf d) ⊎ (k ≡ sizeOf d) → (byteOf here ≤ byteOf p) × (byteOf p ≤ length t) × (p ≡ past here (take (byteOf p - byteOf here) (ahead t d)))
       go (inl l) = reached (rw (stopped (λ b. some b) (item (eqb k 0) t here) c p .0 (sym (next l) ∙ q)) at (item-local (eqb k 0) .reach t here))
       go (inr l) = reached (rw (stopped (λ u. none) (trailer t here) c p .0 (sym (last l) ∙ q)) at (trailer-local .reach t here))
+
+  -- ---- the later decoder
+
+  pub never-foreign : Foreign t (stepOf t d .decoder) → ⊥
+  never-foreign x = false≢true (sym (not-foreign t (stepOf t d .decoder) (still-native t d sound)) ∙ foreign-exactly t (stepOf t d .decoder) .1 x)
+
+  pub aligned : Aligned (stepOf t d .decoder .location)
+  aligned = still-native t d sound .place .start

@@ -1,7 +1,7 @@
 -- Calls for the next data byte, on any decoder: which are foreign, where a refused call leaves the decoder, what a call after the end gives.
 use mathlib.Core.Path.{_≡_, refl, sym, ap, _∙_}
 use mathlib.Core.Logic.{_↔_, inl, inr}
-use Prim.Native.Nat.{ℕ, _+_, _≤_, _<_}
+use Prim.Native.Nat.{ℕ, _+_, _-_, _≤_, _<_}
 use native.Mathlib.Omega.{arith}
 use native.Mathlib.Decide.{decLt}
 use mathlib.Core.Option.{Option, none, some}
@@ -13,39 +13,44 @@ use borrow.Author.Tests.{eqb-true, eqb-false, ltb-true, ltb-false, lt-ltb, le-lt
 use Rattle.text.specs.declared.TextLocation.{TextLocation}
 use Rattle.text.specs.Place.{pick, rest}
 use Rattle.text.specs.Rest.{Reach, reach-inside, walk-sound}
-use Rattle.text.specs.Reader.{Result, ok, stop, bad, endOf, then, _>>=_, _>>_}
-use Rattle.text.specs.Leaf.{give, run, fork, eot, endIf}
+use Rattle.text.specs.Reader.{Result, ok, stop, bad, endOf, then, _>>=_, _>>_, Local, bind-local}
+use Rattle.text.specs.Leaf.{give, run, fork, eot, endIf, give-local}
 use Rattle.text.specs.Outcome.{Outcome, accepted, refused, unplaced, outcome}
 use Rattle.lexical.specs.Lexical.{isLoose, skip}
-use Rattle.body.specs.Data.{item, trailer, closing, brace, tail, trailer-local, bytesOf}
+use Rattle.body.specs.Data.{item, trailer, closing, brace, tail, item-local, trailer-local, bytesOf}
 use Rattle.decoder.specs.declared.XbmStreamDecoder.{XbmStreamDecoder}
 use Rattle.decoder.specs.Step.{foreign, more, called, spent, placedAt, stepOf}
 use Rattle.grammar.specs.Bind.{bind-case, bind-ok, bind-stop}
 use Rattle.claims.specs.Numbers.{Numbered, bind-numbered, give-numbered, item-numbered, trailer-numbered, unplaced-number}
 use Rattle.claims.specs.Steps.{Native, not-foreign, sizeOf, next-answer, last-answer}
-use Rattle.refusals.specs.Terms.{moved, Spent, Foreign, no-width, no-height, position, byte, column, line}
+use Rattle.refusals.specs.Terms.{moved, Spent, Foreign, no-width, no-height, position, byte, column, line, start}
 
 pub foreign-exactly : (t : List ℕ) (d : XbmStreamDecoder) → (foreign t d ≡ true) ↔ Foreign t d
 unfolding foreign
 foreign-exactly t d = go _ _ _ _ _ _ refl refl refl refl refl refl
   where
     go : (a b c e f g : Bool) → eqb (d .width) 0 ≡ a → eqb (d .height) 0 ≡ b → ltb (bytesOf (d .width) (d .height)) (d .«current_position») ≡ c → ltb (length t) (d .location .byte .0) ≡ e
-        → ltb (d .location .byte .0) (d .location .column .0) ≡ f → ltb (d .location .byte .0 + 1) (d .location .line .0) ≡ g
-        → (pick a true (pick b true (pick c true (pick e true (pick f true g)))) ≡ true) ↔ Foreign t d
+        → eqb (d .location .start .0 + d .location .column .0) (d .location .byte .0) ≡ f → ltb (d .location .byte .0 + 1) (d .location .line .0) ≡ g
+        → (pick a true (pick b true (pick c true (pick e true (pick f g true)))) ≡ true) ↔ Foreign t d
     go true b c e f g p q r s u v = ((λ x. no-width (eqb-true _ _ p)), λ x. refl)
     go false true c e f g p q r s u v = ((λ x. no-height (eqb-true _ _ q)), λ x. refl)
     go false false true e f g p q r s u v = ((λ x. position (ltb-true _ _ r)), λ x. refl)
     go false false false true f g p q r s u v = ((λ x. byte (ltb-true _ _ s)), λ x. refl)
-    go false false false false true g p q r s u v = ((λ x. column (ltb-true _ _ u)), λ x. refl)
-    go false false false false false true p q r s u v = ((λ x. line (ltb-true _ _ v)), λ x. refl)
-    go false false false false false false p q r s u v = ((λ x. absurd (false≢true x)), λ x. absurd (none-left x))
+    go false false false false false g p q r s u v = ((λ x. above (decLt (d .location .byte .0) (d .location .column .0))), λ x. refl)
+      where
+        above : Dec (d .location .byte .0 < d .location .column .0) → Foreign t d
+        above (yes l) = column l
+        above (no l) = start (λ x. eqb-false (d .location .start .0 + d .location .column .0) (d .location .byte .0) u (omega arith))
+    go false false false false true true p q r s u v = ((λ x. line (ltb-true _ _ v)), λ x. refl)
+    go false false false false true false p q r s u v = ((λ x. absurd (false≢true x)), λ x. absurd (none-left x))
       where
         none-left : Foreign t d → ⊥
         none-left (no-width x) = eqb-false _ _ p x
         none-left (no-height x) = eqb-false _ _ q x
         none-left (position x) = omega (arith, ltb-false (bytesOf (d .width) (d .height)) (d .«current_position») r)
         none-left (byte x) = omega (arith, ltb-false (length t) (d .location .byte .0) s)
-        none-left (column x) = omega (arith, ltb-false (d .location .byte .0) (d .location .column .0) u)
+        none-left (column x) = omega (arith, eqb-true (d .location .start .0 + d .location .column .0) (d .location .byte .0) u)
+        none-left (start x) = x (omega (arith, eqb-true (d .location .start .0 + d .location .column .0) (d .location .byte .0) u))
         none-left (line x) = omega (arith, ltb-false (d .location .byte .0 + 1) (d .location .line .0) v)
 
 called-numbered : (d : XbmStreamDecoder) → Numbered 6 8 1 0 (called d)
@@ -117,7 +122,7 @@ of-here t d q = record {
   high = λ x. not-so (no-height x);
   position = under (λ x. not-so (position x));
   inside = under (λ x. not-so (byte x));
-  place = record { column = under (λ x. not-so (column x)); line = under (λ x. not-so (line x)) };
+  place = record { start = adds-up _ refl; line = under (λ x. not-so (line x)) };
 }
   where
     not-so : Foreign t d → ⊥
@@ -129,6 +134,30 @@ of-here t d q = record {
         go : Dec (b < a) → a ≤ b
         go (yes l) = absurd (h l)
         go (no l) = omega arith
+
+    adds-up : (f : Bool) → eqb (d .location .start .0 + d .location .column .0) (d .location .byte .0) ≡ f → d .location .start .0 + d .location .column .0 ≡ d .location .byte .0
+    adds-up true u = eqb-true _ _ u
+    adds-up false u = absurd (not-so (start (λ x. eqb-false (d .location .start .0 + d .location .column .0) (d .location .byte .0) u (omega (arith, under (λ y. not-so (column y)))))))
+
+-- a call leaves no foreign decoder behind
+called-local : (d : XbmStreamDecoder) → Local (called d)
+unfolding called
+called-local d = go (more d)
+  where
+    go : (b : Bool) → Local (pick b (item (eqb (d .«current_position») 0) >>= λ b. give (some b)) (trailer >> give none))
+    go true = bind-local (item-local (eqb (d .«current_position») 0)) (λ b. give-local (some b))
+    go false = bind-local trailer-local (λ b. give-local none)
+
+pub still-native : (t : List ℕ) (d : XbmStreamDecoder) → Native t d → Native t (stepOf t d .decoder)
+unfolding stepOf
+still-native t d h = rw (not-foreign t d h) (record { wide = h .wide; high = h .high; position = spent-within (decLt (d .«current_position») (sizeOf d)); inside = reach-inside t (d .location) w (h .inside); place = walk-sound w (h .place) })
+  where
+    w : Reach t (d .location) (endOf (called d t (d .location)))
+    w = called-local d .reach t (d .location)
+
+    spent-within : Dec (d .«current_position» < sizeOf d) → spent d ≤ sizeOf d
+    spent-within (yes l) = rw (lt-ltb (d .«current_position») (sizeOf d) l) (omega arith)
+    spent-within (no l) = rw (le-ltb (d .«current_position») (sizeOf d) (omega arith)) (omega (arith, h .position))
 
 module _ (t : List ℕ) (d : XbmStreamDecoder) (h : Native t d) (l : d .«current_position» ≡ sizeOf d) where
   pub last-decoder : stepOf t d .decoder ≡ placedAt d (d .«current_position») (endOf (trailer t (d .location)))

@@ -41,24 +41,24 @@ inked = 0 ∷ replicate 8 255
 
 abbrev table : List Row
 table =
-    first-row "#include\n" "refused 1 byte=2,line=1:col=2\n" ""
-    ∷ first-row "#define\n" "refused 1 byte=8,line=2:col=0\n" ""
-    ∷ first-row "#define d_wide 9\n" "refused 1 byte=14,line=1:col=14\n" "d_wide"
-    ∷ first-row "\n\nx#\n#define d_width\t9" "refused 1 byte=22,line=4:col=17\n" "d_width"
+    first-row "#include\n" "refused 1 byte=2,line=1:col=2,start=0\n" ""
+    ∷ first-row "#define\n" "refused 1 byte=8,line=2:col=0,start=8\n" ""
+    ∷ first-row "#define d_wide 9\n" "refused 1 byte=14,line=1:col=14,start=0\n" "d_wide"
+    ∷ first-row "\n\nx#\n#define d_width\t9" "refused 1 byte=22,line=4:col=17,start=5\n" "d_width"
     ∷ header-row "#define d_height x\n" "refused 12\n"
     ∷ header-row "#define d_height 0\n" "refused 22\n"
     ∷ header-row "#define d_height 00\n" "refused 12\n"
-    ∷ header-row "#define d_height 1\nchar" "refused 5 byte=38,line=3:col=1\n"
-    ∷ header-row "#define d_height 1\n" "refused 5 byte=37,line=3:col=0\n"
-    ∷ header-row "#define d_height 1\n#define d_y_hot 1\n" "refused 3 byte=48,line=3:col=11\n"
+    ∷ header-row "#define d_height 1\nchar" "refused 5 byte=38,line=3:col=1,start=37\n"
+    ∷ header-row "#define d_height 1\n" "refused 5 byte=37,line=3:col=0,start=37\n"
+    ∷ header-row "#define d_height 1\n#define d_y_hot 1\n" "refused 3 byte=48,line=3:col=11,start=37\n"
     ∷ header-row "#define d_height 1\n#define d_x_hot x\n" "refused 13\n"
-    ∷ header-row "#define d_height 1\n#define d_x_hot 3\nstatic" "refused 4 byte=56,line=4:col=1\n"
+    ∷ header-row "#define d_height 1\n#define d_x_hot 3\nstatic" "refused 4 byte=56,line=4:col=1,start=55\n"
     ∷ header-row "#define d_height 1\n#define d_x_hot 3\n#define d_y_hot 2147483648\n" "refused 14\n"
-    ∷ header-row "#define d_height 1\nstatic int" "refused 5 byte=45,line=3:col=8\n"
-    ∷ row "#define d_height 1\nstatic char d_bits[] = {0x01,0x00,0x00};\n" "refused 7 byte=72,line=3:col=35\n" inked
-    ∷ row "#define d_height 1\nstatic char d_bits[] = {0x01,0x00z" "refused 7 byte=71,line=3:col=34\n" inked
-    ∷ row "#define d_height 1\nstatic char d_bits[] = {0x01,0x00};\nz" "refused 8 byte=74,line=4:col=1\n" inked
-    ∷ row "#define d_height 1\nstatic char d_bits[] = {0x01,0x" "refused 6 byte=68,line=3:col=31\n" (0 ∷ replicate 7 255 ++ (7 ∷ []))
+    ∷ header-row "#define d_height 1\nstatic int" "refused 5 byte=45,line=3:col=8,start=37\n"
+    ∷ row "#define d_height 1\nstatic char d_bits[] = {0x01,0x00,0x00};\n" "refused 7 byte=72,line=3:col=35,start=37\n" inked
+    ∷ row "#define d_height 1\nstatic char d_bits[] = {0x01,0x00z" "refused 7 byte=71,line=3:col=34,start=37\n" inked
+    ∷ row "#define d_height 1\nstatic char d_bits[] = {0x01,0x00};\nz" "refused 8 byte=74,line=4:col=1,start=73\n" inked
+    ∷ row "#define d_height 1\nstatic char d_bits[] = {0x01,0x" "refused 6 byte=68,line=3:col=31,start=37\n" (0 ∷ replicate 7 255 ++ (7 ∷ []))
     ∷ header-row "#define d_height 7282\nstatic char d_bits[] = {" "refused 42\n"
     ∷ []
 

@@ -16,7 +16,7 @@ use Rattle.decoder.specs.Step.{Step, stepOf}
 use Rattle.image.specs.Reading.{reading}
 use Rattle.grammar.specs.Lang.{_·_}
 use Rattle.grammar.specs.Grammar.{Loose, Closing}
-use Rattle.claims.specs.Terms.{Begun, Mismatched, over}
+use Rattle.claims.specs.Terms.{Begun, Mismatched, over, Aligned}
 use Rattle.claims.specs.Mismatch
 use Rattle.refusals.specs.Terms.{Placed, InTable, NoWidthLine, BadWidth, ZeroWidth, NoHeightLine, BadHeight, ZeroHeight, NoXLine, BadX, NoYLine, BadY, NoArrayLine, NoDataByte, NoClosing, MoreBehind, No, Foreign, sizeOf, ahead, moved, Spent, Item, Stores}
 use Rattle.refusals.specs.Table
@@ -96,6 +96,9 @@ pub record Called (text : List ℕ) (d : XbmStreamDecoder) (call : Step) : Type 
   -- the place of a refusal is past some of these bytes
   pub there : (c : ℕ) (p : TextLocation) → call .answer ≡ refused c p
       → (byteOf (d .location) ≤ byteOf p) × (byteOf p ≤ length text) × (p ≡ past (d .location) (take (byteOf p - byteOf (d .location)) (ahead text d)))
+  -- the later decoder is not foreign either: its line's start too is right
+  pub never-foreign : Foreign text (call .decoder) → ⊥
+  pub aligned : Aligned (call .decoder .location)
 
 pub calls : (text : List ℕ) (d : XbmStreamDecoder) → (Foreign text d → ⊥) → Called text d (stepOf text d)
 calls t d h = record {
@@ -107,6 +110,8 @@ calls t d h = record {
   n7 = CallRows.row-7 t d h;
   n8 = CallRows.row-8 t d h;
   there = CallRows.there t d h;
+  never-foreign = CallRows.never-foreign t d h;
+  aligned = CallRows.aligned t d h;
 }
 
 -- A refused call has spent its data byte, if one was left, and stands at the place told.

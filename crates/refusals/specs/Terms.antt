@@ -1,7 +1,7 @@
 -- The words that the claims on refusals are stated in, beside the grammar's and those of the other claims. No reader is in them.
 use mathlib.Core.Path.{_≡_}
 use mathlib.Core.Logic.{_⊎_}
-use Prim.Native.Nat.{ℕ, zero, suc, _+_, _*_, _/_, _≤_, _<_}
+use Prim.Native.Nat.{ℕ, zero, suc, _+_, _-_, _*_, _/_, _≤_, _<_}
 use mathlib.Core.Bool.{Bool, false}
 use mathlib.Core.Option.{none, some}
 use mathlib.Core.List.{List, [], _∷_, _++_}
@@ -135,6 +135,7 @@ pub data Foreign (t : List ℕ) (d : XbmStreamDecoder) : Type 0 where
   byte : length t < d .location .byte .0 → Foreign t d
   column : d .location .byte .0 < d .location .column .0 → Foreign t d
   line : d .location .byte .0 + 1 < d .location .line .0 → Foreign t d
+  start : (d .location .start .0 ≡ d .location .byte .0 - d .location .column .0 → ⊥) → Foreign t d
 
 -- the data bytes of its picture
 abbrev pub sizeOf : XbmStreamDecoder → ℕ

@@ -16,7 +16,7 @@ module _ {h : Hotspot} where
   spot-at e = rw e
 
 pub report-is : (s : Summary) {f : ℕ} → f ≡ flagOf (s .hotspot)
-    → s .place .byte .0 ∷ s .place .line .0 ∷ s .place .column .0 ∷ s .width ∷ s .height ∷ s .name ∷ f ∷ 0 ∷ [] ≡ reportOf s
+    → s .place .byte .0 ∷ s .place .line .0 ∷ s .place .column .0 ∷ s .width ∷ s .height ∷ s .name ∷ f ∷ 0 ∷ s .place .start .0 ∷ 0 ∷ [] ≡ reportOf s
 report-is s e = rw e
 
 pub ruleset written·laws = (spot-absent, spot-at, report-is)

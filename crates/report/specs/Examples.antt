@@ -1,5 +1,5 @@
 -- Worked examples of what is told of a header and of a picture, every number written out as include/xbm.h lists it: the rows of a table, by computing.
--- Of each two entries some row has different numbers in them, so none can stand for another, also where definition and code agree.
+-- Of each two entries but the two that are always 0 some row has different numbers in them, so none can stand for another, also where definition and code agree.
 use Prim.Native.Nat.{ℕ}
 use mathlib.Core.Path.{_≡_, refl}
 use mathlib.Core.Option.{none, some}
@@ -29,15 +29,15 @@ row s n report hotspot = record { told = s; answer = (n, report, hotspot) }
 
 abbrev rows : List Row
 rows =
-    row (ofHeader (accepted (ending-at spot (placeOf 123 5 36))) 4) 0 (123 ∷ 5 ∷ 36 ∷ 9 ∷ 2 ∷ 4 ∷ 1 ∷ 0 ∷ []) (pos 3 ∷ negℤ (pos 40) ∷ [])
-    ∷ row (ofHeader (accepted (ending-at plain (placeOf 61 3 24))) 1) 0 (61 ∷ 3 ∷ 24 ∷ 7 ∷ 11 ∷ 1 ∷ 0 ∷ 0 ∷ []) (pos 0 ∷ pos 0 ∷ [])
-    ∷ row (ofHeader (refused 5 (placeOf 60 3 23)) 0) 5 (60 ∷ 3 ∷ 23 ∷ 0 ∷ 0 ∷ 0 ∷ 0 ∷ 0 ∷ []) (pos 0 ∷ pos 0 ∷ [])
-    ∷ row (ofHeader (unplaced 11) 0) 11 (0 ∷ 0 ∷ 0 ∷ 0 ∷ 0 ∷ 0 ∷ 0 ∷ 0 ∷ []) (pos 0 ∷ pos 0 ∷ [])
+    row (ofHeader (accepted (ending-at spot (placeOf 123 5 36 87))) 4) 0 (123 ∷ 5 ∷ 36 ∷ 9 ∷ 2 ∷ 4 ∷ 1 ∷ 0 ∷ 87 ∷ 0 ∷ []) (pos 3 ∷ negℤ (pos 40) ∷ [])
+    ∷ row (ofHeader (accepted (ending-at plain (placeOf 61 3 24 37))) 1) 0 (61 ∷ 3 ∷ 24 ∷ 7 ∷ 11 ∷ 1 ∷ 0 ∷ 0 ∷ 37 ∷ 0 ∷ []) (pos 0 ∷ pos 0 ∷ [])
+    ∷ row (ofHeader (refused 5 (placeOf 60 3 23 37)) 0) 5 (60 ∷ 3 ∷ 23 ∷ 0 ∷ 0 ∷ 0 ∷ 0 ∷ 0 ∷ 37 ∷ 0 ∷ []) (pos 0 ∷ pos 0 ∷ [])
+    ∷ row (ofHeader (unplaced 11) 0) 11 (0 ∷ 0 ∷ 0 ∷ 0 ∷ 0 ∷ 0 ∷ 0 ∷ 0 ∷ 0 ∷ 0 ∷ []) (pos 0 ∷ pos 0 ∷ [])
     -- an accepted picture tells no place, and a refusal after the header keeps the name
-    ∷ row (ofImage (accepted spot) 4) 0 (0 ∷ 0 ∷ 0 ∷ 9 ∷ 2 ∷ 4 ∷ 1 ∷ 0 ∷ []) (pos 3 ∷ negℤ (pos 40) ∷ [])
-    ∷ row (ofImage (accepted plain) 1) 0 (0 ∷ 0 ∷ 0 ∷ 7 ∷ 11 ∷ 1 ∷ 0 ∷ 0 ∷ []) (pos 0 ∷ pos 0 ∷ [])
-    ∷ row (ofImage (refused 7 (placeOf 146 5 59)) 4) 7 (146 ∷ 5 ∷ 59 ∷ 0 ∷ 0 ∷ 4 ∷ 0 ∷ 0 ∷ []) (pos 0 ∷ pos 0 ∷ [])
-    ∷ row (ofImage (unplaced 31) 4) 31 (0 ∷ 0 ∷ 0 ∷ 0 ∷ 0 ∷ 4 ∷ 0 ∷ 0 ∷ []) (pos 0 ∷ pos 0 ∷ [])
+    ∷ row (ofImage (accepted spot) 4) 0 (0 ∷ 0 ∷ 0 ∷ 9 ∷ 2 ∷ 4 ∷ 1 ∷ 0 ∷ 0 ∷ 0 ∷ []) (pos 3 ∷ negℤ (pos 40) ∷ [])
+    ∷ row (ofImage (accepted plain) 1) 0 (0 ∷ 0 ∷ 0 ∷ 7 ∷ 11 ∷ 1 ∷ 0 ∷ 0 ∷ 0 ∷ 0 ∷ []) (pos 0 ∷ pos 0 ∷ [])
+    ∷ row (ofImage (refused 7 (placeOf 146 5 59 87)) 4) 7 (146 ∷ 5 ∷ 59 ∷ 0 ∷ 0 ∷ 4 ∷ 0 ∷ 0 ∷ 87 ∷ 0 ∷ []) (pos 0 ∷ pos 0 ∷ [])
+    ∷ row (ofImage (unplaced 31) 4) 31 (0 ∷ 0 ∷ 0 ∷ 0 ∷ 0 ∷ 4 ∷ 0 ∷ 0 ∷ 0 ∷ 0 ∷ []) (pos 0 ∷ pos 0 ∷ [])
     ∷ []
 
 -- the same by the definitions

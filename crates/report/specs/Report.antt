@@ -1,4 +1,4 @@
--- What is told of a header or a picture, as include/xbm.h lists it: a result number, a report of eight numbers, a hotspot of two.
+-- What is told of a header or a picture, as include/xbm.h lists it: a result number, a report of ten numbers, a hotspot of two.
 use Prim.Native.Nat.{ℕ}
 use mathlib.Core.Option.{Option, none, some}
 use mathlib.Core.List.{List, [], _∷_}
@@ -54,6 +54,6 @@ abbrev pub coordinates : Hotspot → List ℤ
 coordinates Absent = pos 0 ∷ pos 0 ∷ []
 coordinates (At x y) = x ∷ y ∷ []
 
--- the place, the sides, the name's length, the hotspot's flag, and no data byte
+-- byte, line and column of the place, the sides, the name's length, the hotspot's flag, no data byte, the place's start, and 0
 abbrev pub reportOf : Summary → List ℕ
-reportOf s = s .place .byte .0 ∷ s .place .line .0 ∷ s .place .column .0 ∷ s .width ∷ s .height ∷ s .name ∷ flagOf (s .hotspot) ∷ 0 ∷ []
+reportOf s = s .place .byte .0 ∷ s .place .line .0 ∷ s .place .column .0 ∷ s .width ∷ s .height ∷ s .name ∷ flagOf (s .hotspot) ∷ 0 ∷ s .place .start .0 ∷ 0 ∷ []

@@ -37,17 +37,18 @@ pub fn write_hotspot(hotspot: Hotspot, out: &mut [i32; 2])
     }
 }
 
-// All eight numbers of the report.
-pub fn write_report(s: Summary, out: &mut [u64; 8])
+// All ten numbers of the report.
+pub fn write_report(s: Summary, out: &mut [u64; 10])
     ensures { λ _. ⌜ now (out .exit) ≡ reportOf s ⌝ }
 {
     let byte = s.place.byte.0;
     let line = s.place.line.0;
     let column = s.place.column.0;
+    let start = s.place.start.0;
     let width = s.width as u64;
     let height = s.height as u64;
     let name = s.name as u64;
     let hotspot = s.hotspot;
     let spot = flag(hotspot);
-    *out = [byte, line, column, width, height, name, spot, 0];
+    *out = [byte, line, column, width, height, name, spot, 0, start, 0];
 }

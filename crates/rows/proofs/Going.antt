@@ -7,12 +7,14 @@ use native.Mathlib.Nat.{suc-mul, mul-comm, mul-le-mul-right, div-zero, div-mul-l
 use mir.Syntax.{w64}
 use mir.Val.{Fits}
 use mathlib.Core.Option.{none}
-use mathlib.Core.Bool.{Bool, true, false}
+use mathlib.Core.Bool.{Bool, true, false, true≢false}
 use mathlib.Core.List.{List, [], _∷_, _++_, append-assoc, append-nil}
 use lib.ListN.{length, getD, take, drop}
 use lib.Dec.{eqb, ltb}
 use borrow.Author.Tests.{eq-eqb, ne-eqb, lt-ltb, le-ltb}
 use Rattle.text.specs.declared.TextLocation.{TextLocation}
+use Rattle.text.specs.Rest.{Sound}
+use Rattle.text.specs.PlaceLaws.{reach-sound}
 use Rattle.text.specs.Reader.{Result, ok, stop, bad, Reader, _>>=_, _>>_, then}
 use Rattle.text.specs.Outcome.{outcome}
 use Rattle.text.specs.Leaf.{give, need}
@@ -23,7 +25,7 @@ use Rattle.lexical.specs.Lexical.{number, told}
 use Rattle.lexical.specs.declared.ByteRead.{ByteRead}
 use Rattle.lexical.specs.declared.ByteRead.the-variants.{Got, Refused as Wrong}
 use Rattle.lexical.specs.Lexical.{toldByte}
-use Rattle.body.specs.Data.{Log, item, items, trailer, logOf, rowBytes}
+use Rattle.body.specs.Data.{Log, item, items, trailer, logOf, rowBytes, item-local, item-grows}
 use Rattle.rows.specs.declared.Rows.{Rows}
 use Rattle.rows.specs.declared.Rows.the-variants.{Done, Refused, Mismatch}
 use Rattle.cells.specs.Cells.{cell, count}
@@ -66,6 +68,10 @@ module _ (f : Bool) (t : List ℕ) (i : TextLocation) where
     rest-none : (items 0 f >>= λ l. z (pre ++ l)) t i ≡ z pre t i
     unfolding items give _>>=_
     rest-none = ap (λ (x : List ℕ). z x t i) (append-nil pre)
+
+-- the place after a data byte is sound
+item-sound : (f : Bool) (t : List ℕ) (i : TextLocation) {v : ℕ} {q : TextLocation} → ok v q ≡ item f t i → Sound q
+item-sound f t i {v} {q} e = reach-sound t i (rw (← e) at (item-local f .reach t i)) (rw (← e) at (item-grows f .grows t i) tt)
 
 -- the values of a log
 abbrev values : Log → List ℕ
@@ -111,6 +117,7 @@ pub record Going (w h rows : ℕ) (t : List ℕ) (i₀ : TextLocation) (lent p :
   pub cells : (c : ℕ) → getD p c 0 ≡ cell w done c (getD lent c 0)
   pub log : logOf (count w h (length lent)) true t i₀ ≡ done ++ logOf (count w h (length lent) - length done) f t i
   pub fresh : f ≡ eqb (length done) 0
+  pub sound : f ≡ false → Sound i
   pub left : (items (count w h (length lent) - length done) f >>= λ l. after-rows w h (length lent) (values done ++ l)) t i ≡ whole w h (length lent) t i₀
 
 module _ (w h rows : ℕ) (t : List ℕ) (i₀ : TextLocation) (lent : List ℕ) where
@@ -131,10 +138,15 @@ module _ (w h rows : ℕ) (t : List ℕ) (i₀ : TextLocation) (lent : List ℕ)
     cells = λ c. refl;
     log = let z : count w h (length lent) - 0 ≡ count w h (length lent) = omega arith in rw z;
     fresh = refl;
+    sound = λ z. absurd (true≢false z);
     left = let z : count w h (length lent) - 0 ≡ count w h (length lent) = omega arith in rw z;
   }
 
   module _ (p : List ℕ) (i : TextLocation) (f : Bool) (y row x : ℕ) (g : Going w h rows t i₀ lent p i f y row x) where
+    -- past the first data byte the place is sound
+    pub going-sound : f ≡ false → Sound i
+    going-sound = g .sound
+
     -- a whole row is left
     below : y < min (length lent / w) h → y * rowBytes w + rowBytes w ≤ count w h (length lent)
     below l = omega (arith, mul-le-mul-right (rowBytes w) l, suc-mul y (rowBytes w), count-is w h (length lent))
@@ -228,6 +240,7 @@ module _ (w h rows : ℕ) (t : List ℕ) (i₀ : TextLocation) (lent : List ℕ)
                 (g .cells);
             log = rw d (rw (k, log-more f t i (count w h (length lent) - suc (length (g .done))) got) at (g .log) ∙ sym (append-assoc (g .done) ((v, q) ∷ []) (logOf (count w h (length lent) - suc (length (g .done))) false t q)));
             fresh = rw d (sym (ne-eqb (suc (length (g .done))) 0 (λ z. omega arith)));
+            sound = λ z. item-sound f t i got;
             left = rw (d, values-more (g .done) v q) (sym (rest-more f t i (after-rows w h (length lent)) (values (g .done)) (count w h (length lent) - suc (length (g .done))) got) ∙ (rw k at (g .left)));
           }
 

@@ -3,7 +3,7 @@ use Prim.Native.Nat.{ℕ, _+_, _-_, _*_, _≤_, _<_, _^_}
 use native.Mathlib.Omega.{arith}
 use mir.Syntax.{w64}
 use mir.Val.{Fits}
-use borrow.Author.Tests.{lt-ltb, eqb-true, not-false}
+use borrow.Author.Tests.{lt-ltb, leb-true, eqb-true, not-false}
 use mathlib.Core.Path.{_≡_, refl, sym, _∙_}
 use mathlib.Core.List.{List, [], _∷_}
 use mathlib.Core.Bool.{Bool, true, false, not}
@@ -12,9 +12,9 @@ use native.Mathlib.Numerals.{add-one}
 use lib.Seq.{drop-cons}
 use lib.Dec.{eqb}
 use Rattle.text.specs.declared.TextLocation.{TextLocation}
-use Rattle.text.specs.Place.{byteOf, hasLeft, alongLine, rest, after, past}
+use Rattle.text.specs.Place.{byteOf, reachesTo, alongLine, rest, after, past}
 use Rattle.text.specs.Rest.{Sound, after-rest}
-use Rattle.text.specs.PlaceLaws.{left-inside, left-rest, along-past}
+use Rattle.text.specs.PlaceLaws.{sound-rest, along-past}
 use Rattle.text.specs.Reader.{Result, ok, stop, _>>=_, _>>_}
 use Rattle.text.specs.Leaf.{one, run, give}
 use Rattle.lexical.specs.Lexical.{isLoose, isBlank, skip, byte, is, fixed, number, toldByte}
@@ -102,18 +102,15 @@ module _ (t : List ℕ) (p : TextLocation) where
 drop-at : (s : List ℕ) (n m : ℕ) → m ≡ n + 1 → n < length s → drop n s ≡ getD s n 0 ∷ drop m s
 drop-at s n m e h = rw (e, add-one, drop-cons s n 0 h)
 
-module _ (t : List ℕ) (p : TextLocation) {r : Bool} (e : r ≡ hasLeft t p 6) (g : not r ≡ false) where
-  h : r ≡ true
-  h = not-false r g
-
+module _ (t : List ℕ) (p : TextLocation) {r : Bool} (e : r ≡ reachesTo t p 6) (g : not r ≡ false) where
   inside : byteOf p + 6 ≤ length t
-  inside = left-inside t p 6 (sym e ∙ h) .0
+  inside = leb-true _ _ (sym e ∙ not-false r g)
 
-  rest-six : rest t p ≡ getD t (byteOf p) 0 ∷ getD t (byteOf p + 1) 0 ∷ getD t (byteOf p + 2) 0 ∷ getD t (byteOf p + 3) 0 ∷ getD t (byteOf p + 4) 0
+  rest-six : Sound p → rest t p ≡ getD t (byteOf p) 0 ∷ getD t (byteOf p + 1) 0 ∷ getD t (byteOf p + 2) 0 ∷ getD t (byteOf p + 3) 0 ∷ getD t (byteOf p + 4) 0
       ∷ getD t (byteOf p + 5) 0 ∷ drop (byteOf p + 6) t
-  rest-six =
+  rest-six s =
       let i : byteOf p + 6 ≤ length t = inside in
-      left-rest t p 6 (sym e ∙ h)
+      sound-rest t p s
       ∙ rw (
         drop-at t (byteOf p) (byteOf p + 1) (omega arith) (omega arith),
         drop-at t (byteOf p + 1) (byteOf p + 2) (omega arith) (omega arith),
@@ -134,11 +131,11 @@ module _ (t : List ℕ) (p : TextLocation) {r : Bool} (e : r ≡ hasLeft t p 6) 
   four-inside = omega (arith, inside)
 
   -- the four bytes before the digits are `, 0x`
-  pub quick-hit : {f : Bool} {r hi lo : ℕ} {q : TextLocation} → f ≡ false → length t * 1 < 2 ^ 63
+  pub quick-hit : {f : Bool} {r hi lo : ℕ} {q : TextLocation} → (f ≡ false → Sound p) → f ≡ false → length t * 1 < 2 ^ 63
       → Four t (byteOf p) r → r ≡ 2016419884
       → hi ≡ hexOf (getD t (byteOf p + 4) 0) → hi < 16 → lo ≡ hexOf (getD t (byteOf p + 5) 0) → lo < 16 → q ≡ alongLine p 6
       → Meets (Hit (hi * 16 + lo) q) (item f t p)
-  quick-hit {f} {r} {hi} {lo} {q} hf room four same eh hh el hl to =
+  quick-hit {f} {r} {hi} {lo} {q} sound hf room four same eh hh el hl to =
       let i : byteOf p + 6 ≤ length t = inside in
       let c0 : getD t (byteOf p) 0 ≡ 44 = omega (arith, four .first) in
       let c1 : getD t (byteOf p + 1) 0 ≡ 32 = omega (arith, four .second) in
@@ -147,8 +144,8 @@ module _ (t : List ℕ) (p : TextLocation) {r : Bool} (e : r ≡ hasLeft t p 6) 
       let u : hexOf (getD t (byteOf p + 4) 0) < 16 = rw (← eh) hh in
       let w : hexOf (getD t (byteOf p + 5) 0) < 16 = rw (← el) hl in
       let d : ok (hi * 16 + lo) q ≡ item f t p
-      = rw (hf, eh, el, to, six t p (getD t (byteOf p + 4) 0) (getD t (byteOf p + 5) 0) u w (left-inside t p 6 (sym e ∙ h) .1) (omega arith))
-      (sym (six-read t p (getD t (byteOf p + 4) 0) (getD t (byteOf p + 5) 0) (drop (byteOf p + 6) t) (rw (← c0, ← c1, ← c2, ← c3) rest-six) u w)) in
+      = rw (hf, eh, el, to, six t p (getD t (byteOf p + 4) 0) (getD t (byteOf p + 5) 0) u w (sound hf) (omega arith))
+      (sym (six-read t p (getD t (byteOf p + 4) 0) (getD t (byteOf p + 5) 0) (drop (byteOf p + 6) t) (rw (← c0, ← c1, ← c2, ← c3) (rest-six (sound hf))) u w)) in
       record { hit = λ v p′ y. let a : v ≡ hi * 16 + lo = cc in let b : p′ ≡ q = cc in rw (a, b) d }
 
 pub ruleset quick·laws = (miss, six-inside, six-fits, four-inside, quick-hit)

@@ -2,6 +2,8 @@
 ghost use mathlib.Core.Path.{_≡_};
 ghost use Prim.Native.Nat.{_+_, _/_, _≤_, _<_};
 ghost use lib.ListN.{length};
+ghost use mathlib.Core.Bool.{false};
+ghost use Rattle.text.specs.Rest.{Sound};
 ghost use Rattle.lexical.specs.Lexical.{toldByte};
 ghost use Rattle.hex.specs.Hex.{hexOf, hexTable};
 ghost use Rattle.body.specs.Data.{item};
@@ -16,7 +18,7 @@ use lexical::Passed;
 use lexical::XbmPart;
 use text::TextLocation;
 use text::along;
-use text::has_left;
+use text::reaches;
 
 // The rows read; a refusal; or rows that are not the picture's.
 pub enum Rows {
@@ -59,15 +61,15 @@ fn hex_at(table: &[u8; 256], b: u8) -> u8
     table[b as usize]
 }
 
-// The common `, 0xHH` at once.
+// The common `, 0xHH` at once. Past the first data byte the place is known to be sound, and is not judged again.
 fn quick_byte(text: &[u8], place: TextLocation, first: bool, table: &[u8; 256]) -> Quick
-    requires { ⌜ now table ≡ hexTable ⌝ }
+    requires { ⌜ (now table ≡ hexTable) × (first ≡ false → Sound place) ⌝ }
     ensures { λ r. ⌜ Meets r (item first (now (text .entry)) place) ⌝ }
 {
     if first {
         return Quick::Miss;
     }
-    if !has_left(text, place, 6) {
+    if !reaches(text, place, 6) {
         return Quick::Miss;
     }
     let i = place.byte.0 as usize;
@@ -88,7 +90,7 @@ fn quick_byte(text: &[u8], place: TextLocation, first: bool, table: &[u8; 256]) 
 // The next data byte: the common form at once, anything else by the plain reader. The plain answer is taken apart and made again, so that
 // it shares no memory with the quick one, which then stays in registers.
 fn next_data(text: &[u8], place: TextLocation, first: bool, table: &[u8; 256]) -> ByteRead
-    requires { ⌜ now table ≡ hexTable ⌝ }
+    requires { ⌜ (now table ≡ hexTable) × (first ≡ false → Sound place) ⌝ }
     ensures { λ r. ⌜ toldByte r ≡ item first (now (text .entry)) place ⌝ }
 {
     match quick_byte(text, place, first, table) {

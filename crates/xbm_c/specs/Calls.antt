@@ -1,5 +1,5 @@
--- Worked examples of the calls that read a header or a picture, in numbers: a result, the report's eight entries and the hotspot's two.
--- The rows of two tables, by computing. Of each two entries some row has different numbers in them, so none can stand for another.
+-- Worked examples of the calls that read a header or a picture, in numbers: a result, the report's ten entries and the hotspot's two.
+-- The rows of two tables, by computing. Of each two entries but the two that are always 0 some row has different numbers in them, so none can stand for another.
 use Prim.Native.Nat.{ℕ}
 use Prim.Native.String.{String}
 use mathlib.Core.Path.{_≡_, refl}
@@ -63,19 +63,19 @@ record Row : Type 0 where
   cells : ℕ
   answer : Numbers
 
--- accepted: byte, line and column, the sides, the name's length, with no hotspot or with one
-abbrev plain : List ℕ → ℕ → ℕ → ℕ → ℕ → ℕ → ℕ → ℕ → Row
-plain t n byte line column w h name = record { text = t; cells = n; answer = record { result = 0; report = byte ∷ line ∷ column ∷ w ∷ h ∷ name ∷ 0 ∷ 0 ∷ []; hotspot = pos 0 ∷ pos 0 ∷ [] } }
+-- accepted: byte, line, column and start, the sides, the name's length, with no hotspot or with one
+abbrev plain : List ℕ → ℕ → ℕ → ℕ → ℕ → ℕ → ℕ → ℕ → ℕ → Row
+plain t n byte line column start w h name = record { text = t; cells = n; answer = record { result = 0; report = byte ∷ line ∷ column ∷ w ∷ h ∷ name ∷ 0 ∷ 0 ∷ start ∷ 0 ∷ []; hotspot = pos 0 ∷ pos 0 ∷ [] } }
 
-abbrev spotted : List ℕ → ℕ → ℕ → ℕ → ℕ → ℕ → ℕ → ℕ → ℤ → ℤ → Row
-spotted t n byte line column w h name x y = record { text = t; cells = n; answer = record { result = 0; report = byte ∷ line ∷ column ∷ w ∷ h ∷ name ∷ 1 ∷ 0 ∷ []; hotspot = x ∷ y ∷ [] } }
+abbrev spotted : List ℕ → ℕ → ℕ → ℕ → ℕ → ℕ → ℕ → ℕ → ℕ → ℤ → ℤ → Row
+spotted t n byte line column start w h name x y = record { text = t; cells = n; answer = record { result = 0; report = byte ∷ line ∷ column ∷ w ∷ h ∷ name ∷ 1 ∷ 0 ∷ start ∷ 0 ∷ []; hotspot = x ∷ y ∷ [] } }
 
 -- refused with a place, and without: no sides, no hotspot
-abbrev at : List ℕ → ℕ → ℕ → ℕ → ℕ → ℕ → ℕ → Row
-at t n c byte line column name = record { text = t; cells = n; answer = record { result = c; report = byte ∷ line ∷ column ∷ 0 ∷ 0 ∷ name ∷ 0 ∷ 0 ∷ []; hotspot = pos 0 ∷ pos 0 ∷ [] } }
+abbrev at : List ℕ → ℕ → ℕ → ℕ → ℕ → ℕ → ℕ → ℕ → Row
+at t n c byte line column start name = record { text = t; cells = n; answer = record { result = c; report = byte ∷ line ∷ column ∷ 0 ∷ 0 ∷ name ∷ 0 ∷ 0 ∷ start ∷ 0 ∷ []; hotspot = pos 0 ∷ pos 0 ∷ [] } }
 
 abbrev bare : List ℕ → ℕ → ℕ → ℕ → Row
-bare t n c name = at t n c 0 0 0 name
+bare t n c name = at t n c 0 0 0 0 name
 
 abbrev names : List ℕ
 names = replicate 256 0
@@ -84,20 +84,20 @@ names = replicate 256 0
 
 abbrev headers : List Row
 headers =
-    plain M 0 61 3 24 9 1 1
-    ∷ spotted spot 0 123 5 36 9 2 4 (pos 3) (negℤ (pos 40))
-    ∷ spotted (hot "-2147483648" "-0") 0 108 5 24 9 1 1 (negℤ (pos 2147483648)) (pos 0)
-    ∷ plain (sides "4294967295" "1" ++ array) 0 70 3 24 4294967295 1 1
-    ∷ at [] 0 1 0 1 0 0
-    ∷ at (take 17 M) 0 1 17 1 17 0
-    ∷ at (sides "0 z" "1" ++ array) 0 1 19 1 19 0
-    ∷ at (sides "123456789012" "1" ++ array) 0 1 27 1 27 0
-    ∷ at (take 18 M) 0 2 18 2 0 0
-    ∷ at (ascii "#define d_width 9\n\n") 0 2 19 3 0 0
-    ∷ at (sides "9" "1" ++ ascii "#define d_y_hot") 0 3 48 3 11 0
-    ∷ at (sides "9" "1" ++ ascii "#define d_x_hot 0\n" ++ array) 0 4 56 4 1 0
-    ∷ at (sides "9" "1" ++ ascii "\n") 0 5 38 4 0 0
-    ∷ at (take 60 M) 0 5 60 3 23 0
+    plain M 0 61 3 24 37 9 1 1
+    ∷ spotted spot 0 123 5 36 87 9 2 4 (pos 3) (negℤ (pos 40))
+    ∷ spotted (hot "-2147483648" "-0") 0 108 5 24 84 9 1 1 (negℤ (pos 2147483648)) (pos 0)
+    ∷ plain (sides "4294967295" "1" ++ array) 0 70 3 24 46 4294967295 1 1
+    ∷ at [] 0 1 0 1 0 0 0
+    ∷ at (take 17 M) 0 1 17 1 17 0 0
+    ∷ at (sides "0 z" "1" ++ array) 0 1 19 1 19 0 0
+    ∷ at (sides "123456789012" "1" ++ array) 0 1 27 1 27 0 0
+    ∷ at (take 18 M) 0 2 18 2 0 18 0
+    ∷ at (ascii "#define d_width 9\n\n") 0 2 19 3 0 19 0
+    ∷ at (sides "9" "1" ++ ascii "#define d_y_hot") 0 3 48 3 11 37 0
+    ∷ at (sides "9" "1" ++ ascii "#define d_x_hot 0\n" ++ array) 0 4 56 4 1 55 0
+    ∷ at (sides "9" "1" ++ ascii "\n") 0 5 38 4 0 38 0
+    ∷ at (take 60 M) 0 5 60 3 23 37 0
     ∷ bare (sides "014" "1" ++ array) 0 11 0
     ∷ bare (sides "4294967296" "1" ++ array) 0 11 0
     ∷ bare (sides "9" "+1" ++ array) 0 12 0
@@ -119,15 +119,15 @@ header-table = refl
 
 abbrev pictures : List Row
 pictures =
-    plain M 9 0 0 0 9 1 1
-    ∷ plain M 17 0 0 0 9 1 1
-    ∷ spotted spot 18 0 0 0 9 2 4 (pos 3) (negℤ (pos 40))
-    ∷ at (take 17 M) 9 1 17 1 17 0
-    ∷ at (take 18 M) 9 2 18 2 0 0
-    ∷ at (take 65 M) 9 6 65 3 28 1
-    ∷ at (take 71 M) 9 7 71 3 34 1
-    ∷ at (take 146 spot) 18 7 146 5 59 4
-    ∷ at (M ++ ascii "x") 9 8 74 4 1 1
+    plain M 9 0 0 0 0 9 1 1
+    ∷ plain M 17 0 0 0 0 9 1 1
+    ∷ spotted spot 18 0 0 0 0 9 2 4 (pos 3) (negℤ (pos 40))
+    ∷ at (take 17 M) 9 1 17 1 17 0 0
+    ∷ at (take 18 M) 9 2 18 2 0 18 0
+    ∷ at (take 65 M) 9 6 65 3 28 37 1
+    ∷ at (take 71 M) 9 7 71 3 34 37 1
+    ∷ at (take 146 spot) 18 7 146 5 59 87 4
+    ∷ at (M ++ ascii "x") 9 8 74 4 1 73 1
     ∷ bare (sides "014" "1" ++ array) 9 11 0
     ∷ bare (sides "0" "1" ++ array) 9 21 0
     ∷ bare (sides "9" "0" ++ array) 9 22 0

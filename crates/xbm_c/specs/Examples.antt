@@ -32,17 +32,23 @@ record Row : Type 0 where
 abbrev row : List ℕ → XbmStreamDecoder → ℕ → XbmStreamDecoder → List ℕ → Row
 row t d n e l = record { text = t; lent = d; answer = (n, e, l) }
 
+-- the report of a call that tells no place
+abbrev unplaced : List ℕ
+unplaced = 0 ∷ 0 ∷ 0 ∷ 0 ∷ 0 ∷ 0 ∷ 0 ∷ 0 ∷ 0 ∷ 0 ∷ []
+
 abbrev rows : List Row
 rows =
     -- the two data bytes, then none, then the end is met
-    row mask (at 0 (placeOf 61 3 24)) 0 (at 1 (placeOf 65 3 28)) (reported (placeOf 65 3 28) 1)
-    ∷ row mask (at 1 (placeOf 65 3 28)) 0 (at 2 (placeOf 70 3 33)) (reported (placeOf 70 3 33) 0)
-    ∷ row mask (at 2 (placeOf 70 3 33)) 0 (at 2 (placeOf 73 4 0)) (reported (placeOf 73 4 0) 256)
-    ∷ row mask (at 2 (placeOf 73 4 0)) 7 (at 2 (placeOf 73 4 0)) (reported (placeOf 73 4 0) 0)
+    row mask (at 0 (placeOf 61 3 24 37)) 0 (at 1 (placeOf 65 3 28 37)) (reported (placeOf 65 3 28 37) 1)
+    ∷ row mask (at 1 (placeOf 65 3 28 37)) 0 (at 2 (placeOf 70 3 33 37)) (reported (placeOf 70 3 33 37) 0)
+    ∷ row mask (at 2 (placeOf 70 3 33 37)) 0 (at 2 (placeOf 73 4 0 73)) (reported (placeOf 73 4 0 73) 256)
+    ∷ row mask (at 2 (placeOf 73 4 0 73)) 7 (at 2 (placeOf 73 4 0 73)) (reported (placeOf 73 4 0 73) 0)
     -- M's first 65 bytes: the second byte is spent, and refused
-    ∷ row (take 65 mask) (at 1 (placeOf 65 3 28)) 6 (at 2 (placeOf 65 3 28)) (reported (placeOf 65 3 28) 0)
-    -- a position above 2
-    ∷ row mask (at 3 (placeOf 70 3 33)) 9 (at 3 (placeOf 70 3 33)) (0 ∷ 0 ∷ 0 ∷ 0 ∷ 0 ∷ 0 ∷ 0 ∷ 0 ∷ [])
+    ∷ row (take 65 mask) (at 1 (placeOf 65 3 28 37)) 6 (at 2 (placeOf 65 3 28 37)) (reported (placeOf 65 3 28 37) 0)
+    -- a position above 2; a start that is not byte less column, above it or below
+    ∷ row mask (at 3 (placeOf 70 3 33 37)) 9 (at 3 (placeOf 70 3 33 37)) unplaced
+    ∷ row mask (at 1 (placeOf 65 3 28 38)) 9 (at 1 (placeOf 65 3 28 38)) unplaced
+    ∷ row mask (at 1 (placeOf 65 3 28 36)) 9 (at 1 (placeOf 65 3 28 36)) unplaced
     ∷ []
 
 -- the same by the definitions

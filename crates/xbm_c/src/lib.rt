@@ -17,7 +17,7 @@ use summary::image_told;
 pub extern "C" fn xbm_read_header(
     text: &[u8],
     name: &mut [u8],
-    report: &mut [u64; 8],
+    report: &mut [u64; 10],
     hotspot: &mut [i32; 2],
 ) -> u32
     ensures { λ r. ⌜ HeaderCall (now (text .entry)) (now (name .entry)) (now (name .exit)) (now (report .exit)) (now (hotspot .exit)) r ⌝ }
@@ -35,7 +35,7 @@ pub extern "C" fn xbm_read_image(
     text: &[u8],
     name: &mut [u8],
     pixels: &mut [u8],
-    report: &mut [u64; 8],
+    report: &mut [u64; 10],
     hotspot: &mut [i32; 2],
 ) -> u32
     ensures { λ r. ⌜ ImageCall (now (text .entry)) (now (name .entry)) (now (pixels .entry)) (now (name .exit)) (now (pixels .exit)) (now (report .exit)) (now (hotspot .exit)) r ⌝ }
@@ -52,7 +52,7 @@ pub extern "C" fn xbm_read_image(
 pub extern "C" fn xbm_next_byte(
     text: &[u8],
     decoder: &mut XbmStreamDecoder,
-    report: &mut [u64; 8],
+    report: &mut [u64; 10],
 ) -> u32
     ensures { λ r. ⌜ (r ≡ resultAt (now (text .entry)) (now (decoder .entry))) × (now (decoder .exit) ≡ decoderAt (now (text .entry)) (now (decoder .entry))) × (now (report .exit) ≡ reportAt (now (text .entry)) (now (decoder .entry))) ⌝ }
 {

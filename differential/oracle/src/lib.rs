@@ -4,16 +4,10 @@
 
 /// A place in the text: bytes taken, line from 1, column from 0.
 #[derive(Clone, Copy, Debug, PartialEq, Eq, Default)]
-#[repr(C)]
 pub struct Place {
     pub byte: u64,
     pub line: u64,
     pub column: u64,
-}
-
-impl Place {
-    /// The place at which every text begins.
-    pub const START: Place = Place { byte: 0, line: 1, column: 0 };
 }
 
 /// Document 01's number of a refusal, with the place where one is told.

@@ -19,14 +19,26 @@ abbrev μ-loop : tie.MeasureT-loop
 loop-holds : tie.Need-loop-holds Inv-loop μ-loop
 loop-holds c = (omega arith, refl)
 
+shared-slice-read-right : tie.Need-shared-slice-read-right Inv-loop μ-loop
+shared-slice-read-right c = search needs
+
+add-i : tie.Need-add-i Inv-loop μ-loop
+add-i c = search needs
+
 take-requires : tie.Need-take-requires Inv-loop μ-loop
 take-requires c κs = search needs
 
 enum-known-b : tie.Need-enum-known-b Inv-loop μ-loop
 enum-known-b c = search needs
 
-shared-slice-read-if1 : tie.Need-shared-slice-read-if1 Inv-loop μ-loop
-shared-slice-read-if1 c = search needs
+past-byte-requires : tie.Need-past-byte-requires Inv-loop μ-loop
+past-byte-requires c κs = search needs
+
+loop-less : tie.Need-loop-less Inv-loop μ-loop
+loop-less c = search needs
+
+loop-again : tie.Need-loop-again Inv-loop μ-loop
+loop-again c = (omega arith, search fixed·laws)
 
 returns : tie.Need-returns Inv-loop μ-loop
 returns c = search fixed·laws
@@ -36,15 +48,6 @@ enum-told c = search needs
 
 returns-2 : tie.Need-returns-2 Inv-loop μ-loop
 returns-2 c = search fixed·laws
-
-add-i : tie.Need-add-i Inv-loop μ-loop
-add-i c = search needs
-
-loop-less : tie.Need-loop-less Inv-loop μ-loop
-loop-less c = search needs
-
-loop-again : tie.Need-loop-again Inv-loop μ-loop
-loop-again c = (omega arith, search fixed·laws)
 
 returns-3 : tie.Need-returns-3 Inv-loop μ-loop
 returns-3 c = search fixed·laws
@@ -56,13 +59,14 @@ read-fixed-string-spec =
     Inv-loop
     μ-loop
     loop-holds
+    shared-slice-read-right
+    add-i
     take-requires
     enum-known-b
-    shared-slice-read-if1
+    past-byte-requires
+    loop-less
+    loop-again
     returns
     enum-told
     returns-2
-    add-i
-    loop-less
-    loop-again
     returns-3)

@@ -22,6 +22,12 @@ slice-aggregate-put-field-3 c = search needs
 put-field-requires-3 : tie.Need-put-field-requires-3
 put-field-requires-3 c κs = search needs
 
+slice-aggregate-put-field-4 : tie.Need-slice-aggregate-put-field-4
+slice-aggregate-put-field-4 c = search needs
+
+put-field-requires-4 : tie.Need-put-field-requires-4
+put-field-requires-4 c κs = search needs
+
 same-length : tie.Need-same-length
 same-length c = search needs
 
@@ -38,5 +44,7 @@ put-place-spec =
     put-field-requires-2
     slice-aggregate-put-field-3
     put-field-requires-3
+    slice-aggregate-put-field-4
+    put-field-requires-4
     same-length
     returns)

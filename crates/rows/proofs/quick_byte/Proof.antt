@@ -8,8 +8,8 @@ use Rattle.rows.proofs.quick_byte.Tie as tie
 returns : tie.Need-returns
 returns c = search quick·laws
 
-has-left-requires : tie.Need-has-left-requires
-has-left-requires c κs = search needs
+reaches-requires : tie.Need-reaches-requires
+reaches-requires c κs = search needs
 
 returns-2 : tie.Need-returns-2
 returns-2 c = search quick·laws
@@ -61,7 +61,7 @@ quick-byte-spec =
     tie.close
     (tie.spec
     returns
-    has-left-requires
+    reaches-requires
     returns-2
     four-at-requires
     returns-3

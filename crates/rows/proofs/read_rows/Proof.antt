@@ -1,7 +1,7 @@
 -- The rows are read as the definition says: before each data byte the loop's state is as `Going` has it, and each way on is one of its laws.
 use Rattle.body.specs.Data.{rowBytes}
 use Rattle.cells.specs.Cells.{count}
-use Rattle.rows.proofs.Going.{Going, going-start, going-more, going-next, fewer-more, fewer-next, going-few, going-wrong, going-done, going-many, going-bad, left-fits, start-fits, next-fits, eight-inside, eight-fits, rest-inside, rest-fits}
+use Rattle.rows.proofs.Going.{Going, going-sound, going-start, going-more, going-next, fewer-more, fewer-next, going-few, going-wrong, going-done, going-many, going-bad, left-fits, start-fits, next-fits, eight-inside, eight-fits, rest-inside, rest-fits}
 use Prim.Native.Nat.{_+_, _-_, _*_, _/_}
 use lib.ListN.{length}
 use borrow.Author.Needs.{needs}
@@ -24,7 +24,7 @@ loop-holds : tie.Need-loop-holds Inv-loop μ-loop
 loop-holds c = search going-start
 
 next-data-requires : tie.Need-next-data-requires Inv-loop μ-loop
-next-data-requires c κs = search needs
+next-data-requires c κs = search (going-sound, needs)
 
 enum-known-v : tie.Need-enum-known-v Inv-loop μ-loop
 enum-known-v c = search needs

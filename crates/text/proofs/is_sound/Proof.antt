@@ -7,11 +7,14 @@ use Rattle.text.proofs.is_sound.Tie as tie
 returns : tie.Need-returns
 returns c = search sound·laws
 
-add-result : tie.Need-add-result
-add-result c = search needs
+add-if2 : tie.Need-add-if2
+add-if2 c = search needs
 
 returns-2 : tie.Need-returns-2
 returns-2 c = search sound·laws
 
+returns-3 : tie.Need-returns-3
+returns-3 c = search sound·laws
+
 pub is-sound-spec : {M : Type 1} → statement M
-is-sound-spec = tie.close (tie.spec returns add-result returns-2)
+is-sound-spec = tie.close (tie.spec returns add-if2 returns-2 returns-3)

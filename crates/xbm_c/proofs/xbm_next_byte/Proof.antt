@@ -67,7 +67,7 @@ use Rattle.xbm_c.proofs.xbm_next_byte.Code as code
 
 -- the report's type
 abbrev R : RattleType
-R = Array u64 8
+R = Array u64 10
 
 abbrev stayed : Stays (next.ended .signature .params) (next.ended .kept)
 stayed = (stay-none-slice (0 ∷ []) tt (plain (λ _. u8)) yes, (stay-ref (1 ∷ []) tt (plain (λ _. T.the-row)), (gave-ref (2 ∷ []) tt (plain (λ _. R)), tt)))
