@@ -1,5 +1,6 @@
 // The body of the array: a data byte with what stands before it, and the trailer.
 ghost use mathlib.Core.Path.{_≡_};
+ghost use mathlib.Core.Bool.{false};
 ghost use Rattle.lexical.specs.Lexical.{told, toldByte, onto, skip, isLoose};
 ghost use Rattle.body.specs.Data.{item, brace, closing, trailer};
 ghost use Rattle.body.specs.Code.{separator, ended};
@@ -14,13 +15,10 @@ use text::TextLocation;
 use text::Took;
 use text::take;
 
-// What stands before a data byte: a comma after loose space, but not before the first.
-fn read_separator(text: &[u8], place: TextLocation, first: bool) -> Passed
-    ensures { λ r. ⌜ told r ≡ separator first (now (text .entry)) place ⌝ }
+// A comma after loose space.
+fn read_spaced_comma(text: &[u8], place: TextLocation) -> Passed
+    ensures { λ r. ⌜ told r ≡ separator false (now (text .entry)) place ⌝ }
 {
-    if first {
-        return Passed::To(place);
-    }
     let at = read_optional_whitespace(text, place);
     match take(text, at) {
         Took::Next(b, next) => {
@@ -31,6 +29,24 @@ fn read_separator(text: &[u8], place: TextLocation, first: bool) -> Passed
             }
         }
         Took::End => Passed::Refused(XbmPart::Data, at),
+    }
+}
+
+// What stands before a data byte: a comma after loose space, but not before the first. Mostly the comma stands there at once.
+fn read_separator(text: &[u8], place: TextLocation, first: bool) -> Passed
+    ensures { λ r. ⌜ told r ≡ separator first (now (text .entry)) place ⌝ }
+{
+    if first {
+        return Passed::To(place);
+    }
+    match take(text, place) {
+        Took::Next(b, next) => {
+            if b == b',' {
+                return Passed::To(next);
+            }
+            read_spaced_comma(text, place)
+        }
+        Took::End => Passed::Refused(XbmPart::Data, place),
     }
 }
 

@@ -14,7 +14,7 @@ use Rattle.text.specs.declared.TextLocation.{TextLocation}
 use Rattle.text.specs.Place.{pick, rest, after}
 use Rattle.text.specs.Reader.{Result, ok, stop, Reader, _>>=_}
 use Rattle.text.specs.Leaf.{one, first, judge}
-use Rattle.text.proofs.Reading.{bind-ok, bind-stop, one-ok, one-stop, one-end}
+use Rattle.text.proofs.Reading.{bind-ok, bind-stop, one-past, one-stop, one-end}
 use Rattle.lexical.specs.declared.XbmPart.{XbmPart}
 use Rattle.lexical.specs.Lexical.{number, toldByte}
 use Rattle.lexical.specs.declared.ByteRead.{ByteRead}
@@ -59,7 +59,7 @@ pub hex-none : (b : ℕ) {r : ℕ} → r ≡ hexOf b → 16 ≤ r → hexv b ≡
 unfolding hexv
 hex-none b {r} e h = rw (← e, le-ltb r 16 h)
 
-pub ruleset digit·laws = (one-ok, one-stop, one-end, hex-is, hex-none)
+pub ruleset digit·laws = (one-past, one-stop, one-end, hex-is, hex-none)
 
 -- an answer that is matched on
 module _ {B : Type 0} (p : Reader ℕ) (f : ℕ → Reader B) (t : List ℕ) (i : TextLocation) {m : ByteRead} {z : Result B} (e : toldByte m ≡ p t i) where

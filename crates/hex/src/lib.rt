@@ -1,6 +1,6 @@
 // Hexadecimal bytes: the digits, their table, and a number of two digits with its `0x`.
 ghost use mathlib.Core.Path.{_≡_};
-ghost use Rattle.lexical.specs.Lexical.{number, told, toldByte};
+ghost use Rattle.lexical.specs.Lexical.{number, told, toldByte, byte};
 ghost use Rattle.hex.specs.Hex.{hexOf, hexTable, isMark, hexDigit, hexStart, hexByte};
 use hex_table::HEX;
 use lexical::ByteRead;
@@ -9,6 +9,7 @@ use lexical::XbmPart;
 use lexical::read_fixed_string;
 use text::TextLocation;
 use text::Took;
+use text::past_byte;
 use text::take;
 
 mod hex_table;
@@ -45,7 +46,7 @@ pub fn hex_values() -> [u8; 256]
     HEX
 }
 
-// Read a single hex digit, either upper or lower case.
+// Read a single hex digit, either upper or lower case. Past a digit, as past `x`, no newline is looked for.
 pub fn read_hex_digit(text: &[u8], place: TextLocation, part: XbmPart) -> ByteRead
     ensures { λ r. ⌜ toldByte r ≡ hexDigit (number part) (now (text .entry)) place ⌝ }
 {
@@ -53,7 +54,7 @@ pub fn read_hex_digit(text: &[u8], place: TextLocation, part: XbmPart) -> ByteRe
         Took::Next(b, next) => {
             let v = hex_value(b);
             if v < 16 {
-                ByteRead::Got(v, next)
+                ByteRead::Got(v, past_byte(place, b))
             } else {
                 ByteRead::Refused(part, next)
             }
@@ -72,23 +73,29 @@ fn is_mark(b: u8) -> bool
     b == b'X'
 }
 
-// `0` and then `x` or `X`.
-fn read_hex_start(text: &[u8], place: TextLocation, part: XbmPart) -> Passed
-    ensures { λ r. ⌜ told r ≡ hexStart (number part) (now (text .entry)) place ⌝ }
+// The same, read.
+fn read_mark(text: &[u8], place: TextLocation, part: XbmPart) -> Passed
+    ensures { λ r. ⌜ told r ≡ byte (number part) isMark (now (text .entry)) place ⌝ }
 {
-    let a = match read_fixed_string(text, place, b"0", part) {
-        Passed::To(p) => p,
-        Passed::Refused(q, at) => return Passed::Refused(q, at),
-    };
-    match take(text, a) {
+    match take(text, place) {
         Took::Next(b, next) => {
             if is_mark(b) {
-                Passed::To(next)
+                Passed::To(past_byte(place, b))
             } else {
                 Passed::Refused(part, next)
             }
         }
-        Took::End => Passed::Refused(part, a),
+        Took::End => Passed::Refused(part, place),
+    }
+}
+
+// `0` and then `x` or `X`.
+fn read_hex_start(text: &[u8], place: TextLocation, part: XbmPart) -> Passed
+    ensures { λ r. ⌜ told r ≡ hexStart (number part) (now (text .entry)) place ⌝ }
+{
+    match read_fixed_string(text, place, b"0", part) {
+        Passed::To(p) => read_mark(text, p, part),
+        Passed::Refused(q, at) => Passed::Refused(q, at),
     }
 }
 

@@ -18,7 +18,7 @@ use Rattle.text.specs.Place.{pastByte, tookAt}
 use Rattle.text.specs.Reader.{Result, ok, stop, then, Reader, _>>=_, _>>_}
 use Rattle.text.specs.Leaf.{give}
 use Rattle.text.proofs.Laws.{next-less, next-past}
-use Rattle.text.proofs.Reading.{bind-ok, bind-stop, bind·laws, one-ok, one-stop, one-end, run-on, run-stay, run-end}
+use Rattle.text.proofs.Reading.{bind-ok, bind-stop, bind·laws, one-ok, one-past, one-stop, one-end, run-on, run-stay, run-end}
 use Rattle.lexical.specs.declared.XbmPart.{XbmPart}
 use Rattle.lexical.specs.declared.XbmPart.the-variants.{Width, Height, HotspotX, HotspotY, Array, Data, ArrayEnd, Trailing}
 use Rattle.lexical.specs.declared.Passed.{Passed}
@@ -96,6 +96,10 @@ module _ (c : ℕ) (class : ℕ → Bool) (t : List ℕ) (i : TextLocation) {r :
   unfolding byte
   byte-yes m h k = one-ok c (λ b. when (class b)) t i e m (rw (← h, k))
 
+  pub byte-past : {b : ℕ} {q p : TextLocation} {w : Bool} → length t * 1 < 2 ^ 63 → r ≡ Next b q → p ≡ pastByte i b → w ≡ class b → w ≡ true → ok tt p ≡ byte c class t i
+  unfolding byte
+  byte-past l m s h k = one-past c (λ b. when (class b)) t i l e m s (rw (← h, k))
+
   pub byte-not : {b : ℕ} {q : TextLocation} {w : Bool} → r ≡ Next b q → w ≡ class b → w ≡ false → stop c q ≡ byte c class t i
   unfolding byte
   byte-not m h k = one-stop c (λ b. when (class b)) t i e m (rw (← h, k))
@@ -122,7 +126,7 @@ module _ {B : Type 0} (c : ℕ) (class : ℕ → Bool) (f : Unit {0} → Reader 
   pub then-end : r ≡ End → z ≡ stop c i → z ≡ (byte c class >>= f) t i
   then-end m = bind-stop (byte c class) f t i (byte-end c class t i e m)
 
-pub ruleset byte·laws = (byte-yes, byte-not, byte-end, byte-is, byte-other, then-yes, then-not, then-end, bind·laws)
+pub ruleset byte·laws = (byte-yes, byte-past, byte-not, byte-end, byte-is, byte-other, then-yes, then-not, then-end, bind·laws)
 
 -- the class of a gap, by the flag
 module _ {loose : Bool} (b : ℕ) {w : Bool} where

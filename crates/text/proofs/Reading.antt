@@ -1,17 +1,18 @@
 -- What a step of the code says of a reader's definition. Each law's premises are what a call ensures and what a `match` or a test tells,
 -- and its conclusion is `result ≡ definition`, so `search` puts them together.
-use Prim.Native.Nat.{ℕ}
+use Prim.Native.Nat.{ℕ, _*_, _^_, _<_}
 use borrow.Author.Tests.{eq-eqb, ne-eqb}
-use mathlib.Core.Path.{_≡_, refl}
+use mathlib.Core.Path.{_≡_, refl, ap, _∙_}
 use mathlib.Core.Option.{Option, none, some}
 use mathlib.Core.List.{List, [], _∷_}
+use lib.ListN.{length}
 use Rattle.text.specs.declared.TextLocation.{TextLocation}
 use Rattle.text.specs.declared.Took.{Took}
 use Rattle.text.specs.declared.Took.the-variants.{Next, End}
-use Rattle.text.specs.Place.{rest, after, tookAt}
+use Rattle.text.specs.Place.{rest, after, pastByte, tookAt}
 use Rattle.text.specs.Reader.{Result, ok, stop, bad, Reader, then, _>>=_}
 use Rattle.text.specs.Leaf.{one, run, scan, Move, go-on, stay, halt, judge, give, want, need, fork}
-use Rattle.text.proofs.Laws.{next-rest, next-after, end-rest}
+use Rattle.text.proofs.Laws.{next-rest, next-after, next-past, end-rest}
 
 -- one reading after another
 module _ {A B : Type 0} (p : Reader A) (f : A → Reader B) (t : List ℕ) (i : TextLocation) where
@@ -36,6 +37,10 @@ module _ {A : Type 0} (c : ℕ) (g : ℕ → Option A) (t : List ℕ) (i : TextL
   pub one-ok : {r : Took} {b : ℕ} {q : TextLocation} {a : A} → r ≡ tookAt t i → r ≡ Next b q → g b ≡ some a → ok a q ≡ one c g t i
   unfolding one
   one-ok e m h = rw (next-rest t i e m, h, ← next-after t i e m)
+
+  -- the same with the place made of the byte
+  pub one-past : {r : Took} {b : ℕ} {q p : TextLocation} {a : A} → length t * 1 < 2 ^ 63 → r ≡ tookAt t i → r ≡ Next b q → p ≡ pastByte i b → g b ≡ some a → ok a p ≡ one c g t i
+  one-past {p = p} {a = a} l e m k h = ap (ok a) (k ∙ next-past t i l e m) ∙ one-ok e m h
 
   pub one-stop : {r : Took} {b : ℕ} {q : TextLocation} → r ≡ tookAt t i → r ≡ Next b q → g b ≡ none → stop c q ≡ one c g t i
   unfolding one

@@ -7,20 +7,20 @@ use Rattle.body.proofs.read_separator.Tie as tie
 returns : tie.Need-returns
 returns c = search separator·laws
 
-read-optional-whitespace-requires : tie.Need-read-optional-whitespace-requires
-read-optional-whitespace-requires c κs = search needs
-
 take-requires : tie.Need-take-requires
 take-requires c κs = search needs
 
 enum-known-b : tie.Need-enum-known-b
 enum-known-b c = search needs
 
-enum-told : tie.Need-enum-told
-enum-told c = search needs
-
 returns-2 : tie.Need-returns-2
 returns-2 c = search separator·laws
+
+read-spaced-comma-requires : tie.Need-read-spaced-comma-requires
+read-spaced-comma-requires c κs = search needs
+
+enum-told : tie.Need-enum-told
+enum-told c = search needs
 
 returns-3 : tie.Need-returns-3
 returns-3 c = search separator·laws
@@ -33,10 +33,10 @@ read-separator-spec =
     tie.close
     (tie.spec
     returns
-    read-optional-whitespace-requires
     take-requires
     enum-known-b
-    enum-told
     returns-2
+    read-spaced-comma-requires
+    enum-told
     returns-3
     returns-4)

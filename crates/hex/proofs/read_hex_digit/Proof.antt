@@ -14,6 +14,9 @@ enum-known-b c = search needs
 hex-value-requires : tie.Need-hex-value-requires
 hex-value-requires c κs = search needs
 
+past-byte-requires : tie.Need-past-byte-requires
+past-byte-requires c κs = search needs
+
 enum-told : tie.Need-enum-told
 enum-told c = search needs
 
@@ -32,4 +35,4 @@ returns-3 c = search digit·laws
 pub read-hex-digit-spec : {M : Type 1} → statement M
 read-hex-digit-spec =
     tie.close
-    (tie.spec take-requires enum-known-b hex-value-requires enum-told returns returns-2 returns-3)
+    (tie.spec take-requires enum-known-b hex-value-requires past-byte-requires enum-told returns returns-2 returns-3)

@@ -1,5 +1,5 @@
--- `hex::read_hex_start` meets its contract: each return is a law (`pass·laws`, `byte·laws`).
-use Rattle.lexical.proofs.Laws.{pass·laws, byte·laws}
+-- `hex::read_hex_start` meets its contract: each return is a law (`pass·laws`).
+use Rattle.lexical.proofs.Laws.{pass·laws}
 use Rattle.hex.specs.Hex.{hexStart}
 use borrow.Author.Needs.{needs}
 use Rattle.hex.proofs.read_hex_start.Statement.{statement}
@@ -14,36 +14,19 @@ read-fixed-string-requires c κs = search needs
 enum-known-p : tie.Need-enum-known-p
 enum-known-p c = search needs
 
+read-mark-requires : tie.Need-read-mark-requires
+read-mark-requires c κs = search needs
+
 enum-known-q : tie.Need-enum-known-q
 enum-known-q c = search needs
 
 returns : tie.Need-returns
 unfolding hexStart
-returns c = search (pass·laws, byte·laws)
-
-take-requires : tie.Need-take-requires
-take-requires c κs = search needs
-
-enum-known-b : tie.Need-enum-known-b
-enum-known-b c = search needs
-
-is-mark-requires : tie.Need-is-mark-requires
-is-mark-requires c κs = search needs
-
-enum-told : tie.Need-enum-told
-enum-told c = search needs
+returns c = search pass·laws
 
 returns-2 : tie.Need-returns-2
 unfolding hexStart
-returns-2 c = search (pass·laws, byte·laws)
-
-returns-3 : tie.Need-returns-3
-unfolding hexStart
-returns-3 c = search (pass·laws, byte·laws)
-
-returns-4 : tie.Need-returns-4
-unfolding hexStart
-returns-4 c = search (pass·laws, byte·laws)
+returns-2 c = search pass·laws
 
 pub read-hex-start-spec : {M : Type 1} → statement M
 read-hex-start-spec =
@@ -52,12 +35,7 @@ read-hex-start-spec =
     slice-aggregate-read-fixed-string
     read-fixed-string-requires
     enum-known-p
+    read-mark-requires
     enum-known-q
     returns
-    take-requires
-    enum-known-b
-    is-mark-requires
-    enum-told
-    returns-2
-    returns-3
-    returns-4)
+    returns-2)
