@@ -238,15 +238,18 @@ either {C} lo hi c d q f g = go (within lo hi c) refl q
     go true u v = f (in-range lo hi c u)
     go false u v = g v
 
--- the header's numbers without a place
-pub header-number : (c : ℕ) → in-header c ≡ true → ((21 ≤ c) × (c ≤ 22)) ⊎ ((11 ≤ c) × (c ≤ 14))
+-- what `in-header` says of a number
+abbrev pub HeaderNumber : ℕ → Type 0
+HeaderNumber c = ((21 ≤ c) × (c ≤ 22)) ⊎ ((11 ≤ c) × (c ≤ 14))
+
+pub header-number : (c : ℕ) → in-header c ≡ true → HeaderNumber c
 header-number c q = either 21 22 c _ q inl (λ r. inr (in-range 11 14 c r))
 
 -- the least and the greatest of them
 pub header-bounds : (c : ℕ) → in-header c ≡ true → (11 ≤ c) × (c ≤ 22)
 header-bounds c q = go (header-number c q)
   where
-    go : ((21 ≤ c) × (c ≤ 22)) ⊎ ((11 ≤ c) × (c ≤ 14)) → (11 ≤ c) × (c ≤ 22)
+    go : HeaderNumber c → (11 ≤ c) × (c ≤ 22)
     go (inl (x, y)) = (omega arith, y)
     go (inr (x, y)) = (x, omega arith)
 

@@ -1,6 +1,6 @@
 -- No number is told but those of document 01's table.
 use mathlib.Core.Path.{_≡_, refl}
-use mathlib.Core.Logic.{_⊎_, inl, inr}
+use mathlib.Core.Logic.{inl, inr}
 use Prim.Native.Nat.{ℕ, zero, suc, _+_, _-_, _≤_}
 use native.Mathlib.Omega.{arith}
 use mathlib.Core.List.{List}
@@ -13,7 +13,7 @@ use Rattle.text.specs.Outcome.{unplaced, outcome}
 use Rattle.header.specs.Header.{Head, header}
 use Rattle.rows.specs.Rows.{whole}
 use Rattle.image.specs.Reading.{picture, reading}
-use Rattle.claims.specs.Numbers.{header-numbered, whole-numbered, placed-number, unplaced-number, thirty-one, header-number}
+use Rattle.claims.specs.Numbers.{header-numbered, whole-numbered, placed-number, unplaced-number, thirty-one, HeaderNumber, header-number}
 use Rattle.refusals.specs.Terms.{InTable}
 
 -- one of four numbers in a row: a case for each
@@ -27,7 +27,7 @@ four {C} lo c x y f g h k = go (c - lo) refl
     go (suc (suc (suc n))) q = k (omega arith)
 
 -- the header's numbers without a place are in the table
-of-header : (c : ℕ) → ((21 ≤ c) × (c ≤ 22)) ⊎ ((11 ≤ c) × (c ≤ 14)) → InTable (unplaced c)
+of-header : (c : ℕ) → HeaderNumber c → InTable (unplaced c)
 of-header c (inl (x, y)) = four 21 c x (omega arith) (λ q. inr (inr (inr (inr (inl q))))) (λ q. inr (inr (inr (inr (inr (inl q)))))) (λ q. absurd (omega arith)) (λ q. absurd (omega arith))
 of-header c (inr (x, y)) = four 11 c x y inl (λ q. inr (inl q)) (λ q. inr (inr (inl q))) (λ q. inr (inr (inr (inl q))))
 
