@@ -24,7 +24,7 @@ use Rattle.grammar.specs.Pieces.{begins-any}
 use Rattle.grammar.specs.Lines.{hot-fits}
 use Rattle.grammar.specs.Headers.{header-exactly}
 use Rattle.claims.specs.Terms.{Begun}
-use Rattle.claims.specs.Numbers.{Numbered, numbers, width-numbered, array-numbered, placed-number, unplaced-number}
+use Rattle.claims.specs.Numbers.{no-number, in-header, Numbered, numbers, width-numbered, array-numbered, placed-number, untold}
 use Rattle.refusals.specs.Terms.{NoArrayLine, Placed, No}
 use Rattle.refusals.specs.Stages.{both-ways, given, chain, at-parts, read-at, later-stop, begun}
 use Rattle.refusals.specs.Lines.{define-begins}
@@ -58,11 +58,11 @@ pub fourth-hot : (limit : ℕ) → (second limit >>= hot) ≡ (fourth limit >>= 
 unfolding third fourth
 fourth-hot limit = sym (chain _ _ (λ b. after-x (b .0) (b .1)) (λ a. chain _ _ _ (λ x. given (a, x) (λ b. after-x (b .0) (b .1))))) ∙ sym (chain (third limit) _ done (λ b. chain _ _ done (λ y. given (b, y) done)))
 
-pub fourth-numbered : (limit : ℕ) → Numbered 1 4 11 22 (fourth limit)
+pub fourth-numbered : (limit : ℕ) → Numbered 1 4 in-header (fourth limit)
 unfolding fourth third second first
 fourth-numbered limit = search (numbers, width-numbered) depth 40 fits 10000
 
-array-5 : (name : List ℕ) → Numbered 5 5 1 0 (arrayLine 5 name)
+array-5 : (name : List ℕ) → Numbered 5 5 no-number (arrayLine 5 name)
 array-5 name = array-numbered name refl
 
 -- the array line is there, or the refusal is 5
@@ -76,7 +76,7 @@ ending-case name w h o t i = go (arrayLine 5 name t i) refl
     go : (r : Result (Unit {0})) → arrayLine 5 name t i ≡ r → ((e : TextLocation) × (then r (λ a e. ok head e) ≡ ok head e)) ⊎ ((q : TextLocation) × (then r (λ a e. ok head e) ≡ stop 5 q))
     go (ok a e) q = inl (e, refl)
     go (stop c e) q = let z : c ≡ 5 = omega (arith, placed-number (array-5 name) t i c e q) in inr (e, ap (λ (k : ℕ). stop k e) z)
-    go (bad c e) q = absurd (omega (arith, unplaced-number (array-5 name) t i c e q))
+    go (bad c e) q = absurd (untold (array-5 name) t i c e refl q)
 
 module _ (text name pixels : List ℕ) where
   abbrev lim : ℕ

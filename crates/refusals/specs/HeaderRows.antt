@@ -26,7 +26,7 @@ use Rattle.grammar.specs.Fits.{Any, Fits, fit-run}
 use Rattle.grammar.specs.Pieces.{leading-fits}
 use Rattle.grammar.specs.Lines.{width-fits}
 use Rattle.claims.specs.Terms.{Begun}
-use Rattle.claims.specs.Numbers.{Numbered, numbers, width-numbered, rest-numbered, whole-numbered, placed-number, unplaced-number}
+use Rattle.claims.specs.Numbers.{no-number, in-header, Numbered, numbers, width-numbered, rest-numbered, whole-numbered, placed-number, thirty-one}
 use Rattle.refusals.specs.Terms.{NoWidthLine, BadWidth, ZeroWidth, NoHeightLine, BadHeight, ZeroHeight, Token, Front, Second, NoSide, Placed}
 use Rattle.refusals.specs.Stages.{both-ways, assoc, Quiet, quiet-mild, quiet-bind, quiet-need, quiet-fork, need-none, need-some, stage-stop, stage-bad, after-stop, after-bad, begun}
 use Rattle.refusals.specs.Lines.{known, known-fits, front, front-fits, widths, raw, define-begins, line-is, wide, next, header-is}
@@ -75,7 +75,7 @@ module _ (text name pixels : List ℕ) where
       after : (h : Head) (e : TextLocation) (r : Result (List ℕ)) → whole (h .width) (h .height) (length pixels) text e ≡ r → told (then r (λ l e. ok (h, l) e)) ≡ unplaced c → ⊥
       after h e (ok a m) q x = let z : _≡_ {A = ℕ} 0 1 = cc in omega arith
       after h e (stop d m) q x = let z : _≡_ {A = ℕ} 0 1 = cc in omega arith
-      after h e (bad d m) q x = let z : d ≡ c = cc in l (omega (arith, unplaced-number (whole-numbered (h .width) (h .height) (length pixels)) text e d m q))
+      after h e (bad d m) q x = let z : d ≡ c = cc in l (sym z ∙ thirty-one (whole-numbered (h .width) (h .height) (length pixels)) text e d m q)
 
       go : (r : Result Head) → (told (then r (λ h e. then (whole (h .width) (h .height) (length pixels) text e) (λ l e. ok (h, l) e))) ≡ unplaced c) ↔ ((q : TextLocation) × (r ≡ bad c q))
       go (ok h e) = ((λ x. absurd (after h e (whole (h .width) (h .height) (length pixels) text e) refl x)), λ (q, x). (let z : _≡_ {A = ℕ} 0 1 = cc in absurd (omega arith)))
@@ -125,11 +125,11 @@ zero-token (x ∷ y ∷ w) (n, (a, u), v) = absurd (n (omega (arith, a, value-up
 next-quiet : (nw : List ℕ × ℕ) → Quiet 21 (next nw)
 next-quiet nw = search (quiets, rest-quiet) depth 40 fits 10000
 
-front-numbered : (limit : ℕ) → Numbered 1 1 1 0 (front limit)
+front-numbered : (limit : ℕ) → Numbered 1 1 no-number (front limit)
 unfolding front widths raw
 front-numbered limit = search numbers depth 40 fits 10000
 
-pub wide-numbered : (p : List ℕ × List ℕ) → Numbered 2 5 11 22 (wide p >>= next)
+pub wide-numbered : (p : List ℕ × List ℕ) → Numbered 2 5 in-header (wide p >>= next)
 wide-numbered p = search (numbers, rest-numbered) depth 40 fits 10000
 
 front-quiet : (limit d : ℕ) → Quiet d (front limit)
@@ -200,7 +200,7 @@ pub front-name : (limit : ℕ) (name : List ℕ) (N : Lang) (w : List ℕ) → F
 unfolding Define Symbol _·_
 front-name limit name N w (a, b, q, k, (u, v, o, l, (u1, v1, q1, k1, (u2, v2, q2, k2, m)))) = k2 .1
 
-pub first-numbered : (limit : ℕ) → Numbered 1 1 11 22 (first limit)
+pub first-numbered : (limit : ℕ) → Numbered 1 1 in-header (first limit)
 unfolding first
 first-numbered limit = search (numbers, width-numbered)
 
@@ -218,11 +218,11 @@ pub header-next : (limit : ℕ) → header limit ≡ (first limit >>= λ nw. hei
 unfolding header first
 header-next limit = sym (assoc (leading 1 true) (λ a. widthLine limit) next) ∙ ap (λ (f : List ℕ × ℕ → Reader Head). (leading 1 true >> widthLine limit) >>= f) (λ i nw. next-is nw i)
 
-heights-numbered : (name : List ℕ) → Numbered 2 2 1 0 (heights name)
+heights-numbered : (name : List ℕ) → Numbered 2 2 no-number (heights name)
 unfolding known raw
 heights-numbered name = search numbers depth 40 fits 10000
 
-pub high-numbered : (nw : List ℕ × ℕ) (w : List ℕ) → Numbered 3 5 12 22 (high nw w)
+pub high-numbered : (nw : List ℕ × ℕ) (w : List ℕ) → Numbered 3 5 in-header (high nw w)
 high-numbered nw w = search (numbers, rest-numbered)
 
 pub known-quiet : (c d : ℕ) (name z : List ℕ) → Quiet d (known c name z)

@@ -27,7 +27,7 @@ use Rattle.grammar.specs.Fits.{Any, Next, At, Fits, Begins, fit-drop, fit-bind,
 use Rattle.grammar.specs.Pieces.{begins-any}
 use Rattle.grammar.specs.Lines.{height-fits, hot-fits}
 use Rattle.claims.specs.Terms.{Begun}
-use Rattle.claims.specs.Numbers.{Numbered, numbers, width-numbered, array-numbered, placed-number, unplaced-number}
+use Rattle.claims.specs.Numbers.{no-number, in-header, Numbered, numbers, width-numbered, array-numbered, placed-number, untold}
 use Rattle.refusals.specs.Terms.{NoXLine, BadX, NoYLine, BadY, Token, Front, No, NoCoordinate, Placed}
 use Rattle.refusals.specs.Stages.{both-ways, assoc, given, chain, Quiet, stop-second, bad-second, need-none, at-both, at-parts, stage-stop, later-stop, later-bad, one-end, none-after, after-stop, after-bad, begun}
 use Rattle.refusals.specs.Lines.{known, known-fits, raw, define-begins, line-is}
@@ -117,17 +117,17 @@ left a w = signed 13 w >>= λ x. line 4 (a .0 .0) (ascii "_y_hot") (signed 14) >
 pub hot-is : (a : Three) → hot a ≡ (hot-x (a .0 .0) >>= left a)
 hot-is a = ap (λ (p : Reader ℤ). p >>= λ x. line 4 (a .0 .0) (ascii "_y_hot") (signed 14) >>= λ y. ending (a .0 .0) (a .0 .1) (a .1) (some (x, y))) (sym (line-is 3 (a .0 .0) (ascii "_x_hot") (signed 13))) ∙ assoc (hot-x (a .0 .0)) (signed 13) _
 
-hot-x-numbered : (name : List ℕ) → Numbered 3 3 1 0 (hot-x name)
+hot-x-numbered : (name : List ℕ) → Numbered 3 3 no-number (hot-x name)
 unfolding known raw
 hot-x-numbered name = search numbers depth 40 fits 10000
 
-pub left-numbered : (a : Three) (w : List ℕ) → Numbered 4 5 13 14 (left a w)
+pub left-numbered : (a : Three) (w : List ℕ) → Numbered 4 5 in-header (left a w)
 left-numbered a w = search (numbers, array-numbered) depth 40 fits 10000
 
-pub plain-numbered : (a : Three) → Numbered 5 5 1 0 (plain a)
+pub plain-numbered : (a : Three) → Numbered 5 5 no-number (plain a)
 plain-numbered a = search (numbers, array-numbered)
 
-pub second-numbered : (limit : ℕ) → Numbered 1 2 11 22 (second limit)
+pub second-numbered : (limit : ℕ) → Numbered 1 2 in-header (second limit)
 unfolding second first
 second-numbered limit = search (numbers, width-numbered) depth 40 fits 10000
 
@@ -156,7 +156,7 @@ module _ (limit : ℕ) (a : Three) (t : List ℕ) (m : TextLocation) (s : All so
       there q x (no k) = other (unhashed a t m k)
         where
           other : (further a t m ≡ plain a t m) ⊎ ((q : TextLocation) × (further a t m ≡ stop 5 q)) → (q : TextLocation) × (hot a t m ≡ bad d q)
-          other (inl u) = absurd (omega (arith, unplaced-number (plain-numbered a) t m d q (sym u ∙ x)))
+          other (inl u) = absurd (untold (plain-numbered a) t m d q refl (sym u ∙ x))
           other (inr (p, u)) = let z : _≡_ {A = ℕ} 0 1 = cc in absurd (omega arith)
 
   -- a number before 5
@@ -232,14 +232,14 @@ pub third-hot : (limit : ℕ) → (second limit >>= hot) ≡ (third limit >>= λ
 unfolding third
 third-hot limit = sym (chain _ _ _ (λ a. chain _ _ _ (λ x. given (a, x) (λ b. hot-y (b .0 .0 .0) >>= right b) ∙ sym (after-x-is a x))))
 
-hot-y-numbered : (name : List ℕ) → Numbered 4 4 1 0 (hot-y name)
+hot-y-numbered : (name : List ℕ) → Numbered 4 4 no-number (hot-y name)
 unfolding known raw
 hot-y-numbered name = search numbers depth 40 fits 10000
 
-pub right-numbered : (b : Four) (w : List ℕ) → Numbered 5 5 14 14 (right b w)
+pub right-numbered : (b : Four) (w : List ℕ) → Numbered 5 5 in-header (right b w)
 right-numbered b w = search (numbers, array-numbered)
 
-pub third-numbered : (limit : ℕ) → Numbered 1 3 11 22 (third limit)
+pub third-numbered : (limit : ℕ) → Numbered 1 3 in-header (third limit)
 unfolding third second first
 third-numbered limit = search (numbers, width-numbered) depth 40 fits 10000
 
