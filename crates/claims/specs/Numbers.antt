@@ -1,7 +1,7 @@
 -- Which numbers a refusal can have. With a place: 1 to 5 in the header, 6 in data, 7 up to the semicolon, 8 after it. Without one: those that pass a test, `in-header` in the header, and then only 31.
 use mathlib.Core.Path.{_≡_, refl, sym, _∙_}
 use mathlib.Core.Logic.{_⊎_, inl, inr}
-use Prim.Native.Nat.{ℕ, zero, suc, _/_, _≤_}
+use Prim.Native.Nat.{ℕ, zero, suc, _+_, _/_, _≤_}
 use native.Mathlib.Omega.{arith}
 use mathlib.Core.Option.{Option, none, some}
 use mathlib.Core.Bool.{Bool, true, false, false≢true}
@@ -15,11 +15,19 @@ use Rattle.text.specs.Leaf.{give, want, need, one, first, judge, Move, go-on, s
 use Rattle.lexical.specs.Lexical.{is, while, lead, byte, skip, fixed, gap, lineEnd, leading}
 use Rattle.lexical.specs.Token.{upTo, token}
 use Rattle.hex.specs.Hex.{hexv, hexDigit, hexStart, hexDigits, hexUnit}
-use Rattle.lines.specs.Lines.{widthLine, element, arrayLine}
+use Rattle.integer.specs.declared.Fault.{Fault}
+use Rattle.integer.specs.declared.Fault.the-variants.{Empty, LeadingZero, NotDigit, OutOfRange}
+use Rattle.integer.specs.declared.Unsigned.{Unsigned}
+use Rattle.integer.specs.declared.Unsigned.the-variants.{Value, Bad}
+use Rattle.integer.specs.declared.Signed.{Signed}
+use Rattle.integer.specs.declared.Signed.the-variants.{Number, Wrong}
+use Rattle.integer.specs.Decimal.{parseU32, parseI32, unsignedOf, signedOf, faultNumber, unsignedFault, signedFault}
+use Rattle.lines.specs.Lines.{unsigned, signed, widthLine, element, arrayLine}
 use Rattle.header.specs.Header.{rest as headerRest, header}
 use Rattle.body.specs.Data.{item, items, brace, closing, tail, trailer}
 use Rattle.cells.specs.Cells.{count}
 use Rattle.rows.specs.Rows.{ending, whole}
+use Rattle.claims.specs.Terms.{HeaderNumber}
 
 abbrev within : ℕ → ℕ → ℕ → Bool
 within lo hi c = pick (leb lo c) (leb c hi) false
@@ -32,9 +40,25 @@ no-number c = false
 abbrev pub only-31 : ℕ → Bool
 only-31 c = eqb c 31
 
--- without a place: of the header; a side that is 0, an integer that is none. All that is known of these numbers is `header-number` below, and what follows it
+-- without a place: of the header; a side that is 0, or an integer that is none, four for each line. What that says of a number is `header-number` below
 abbrev pub in-header : ℕ → Bool
-in-header c = pick (within 21 22 c) true (within 11 14 c)
+in-header c = pick (within 21 22 c) true (pick (within 111 114 c) true (pick (within 121 124 c) true (pick (within 131 134 c) true (within 141 144 c))))
+
+-- all four numbers of a line's integer pass the test
+abbrev pub four : (ℕ → Bool) → ℕ → Bool
+four bare c = pick (bare (c + 1)) (pick (bare (c + 2)) (pick (bare (c + 3)) (bare (c + 4)) false) false) false
+
+pub four-fault : (bare : ℕ → Bool) (c : ℕ) → four bare c ≡ true → (f : Fault) → bare (c + faultNumber f) ≡ true
+four-fault bare c h f = go (bare (c + 1)) (bare (c + 2)) (bare (c + 3)) refl refl refl h f
+  where
+    go : (x y z : Bool) → bare (c + 1) ≡ x → bare (c + 2) ≡ y → bare (c + 3) ≡ z → pick x (pick y (pick z (bare (c + 4)) false) false) false ≡ true → (f : Fault) → bare (c + faultNumber f) ≡ true
+    go true true true p q r h Empty = p
+    go true true true p q r h LeadingZero = q
+    go true true true p q r h NotDigit = r
+    go true true true p q r h OutOfRange = h
+    go true true false p q r h f = absurd (false≢true h)
+    go true false z p q r h f = absurd (false≢true h)
+    go false y z p q r h f = absurd (false≢true h)
 
 -- with a place lo to hi, without one those that pass bare
 abbrev Good : {A : Type 0} → ℕ → ℕ → (ℕ → Bool) → Result A → Type 0
@@ -69,6 +93,24 @@ module _ {lo hi : ℕ} {bare : ℕ → Bool} where
   unfolding need
   need-numbered c none s = record { numbered = λ t i. s }
   need-numbered c (some a) s = record { numbered = λ t i. tt }
+
+  -- an integer's token
+  module _ (c : ℕ) (w : List ℕ) (s : four bare c ≡ true) where
+    pub unsigned-numbered : Numbered lo hi bare (unsigned c w)
+    unfolding need
+    unsigned-numbered = record { numbered = λ t i. go (parseU32 w) t i }
+      where
+        go : (u : Unsigned) (t : List ℕ) (i : TextLocation) → Good lo hi bare (need (c + unsignedFault u) (unsignedOf u) t i)
+        go (Value n) t i = tt
+        go (Bad f) t i = four-fault bare c s f
+
+    pub signed-numbered : Numbered lo hi bare (signed c w)
+    unfolding need
+    signed-numbered = record { numbered = λ t i. go (parseI32 w) t i }
+      where
+        go : (u : Signed) (t : List ℕ) (i : TextLocation) → Good lo hi bare (need (c + signedFault u) (signedOf u) t i)
+        go (Number z) t i = tt
+        go (Wrong f) t i = four-fault bare c s f
 
   -- a run that halts at no byte is not refused
   pub skip-numbered : (class : ℕ → Bool) → Numbered lo hi bare (skip class)
@@ -166,12 +208,12 @@ module _ {lo hi : ℕ} {bare : ℕ → Bool} where
     unfolding hexUnit hexStart hexDigit
     hexUnit-numbered n = bind-numbered (bind-numbered (fixed-numbered _) (λ a. byte-numbered _)) (λ a. bind-numbered (one-numbered hexv) (λ d. digits-numbered n d))
 
-pub ruleset numbers = (bind-numbered, give-numbered, need-numbered, want-numbered, byte-numbered, skip-numbered, fixed-numbered, gap-numbered, lineEnd-numbered, leading-numbered, token-numbered, hexUnit-numbered, fork-numbered, eot-numbered)
+pub ruleset numbers = (bind-numbered, give-numbered, unsigned-numbered, signed-numbered, need-numbered, want-numbered, byte-numbered, skip-numbered, fixed-numbered, gap-numbered, lineEnd-numbered, leading-numbered, token-numbered, hexUnit-numbered, fork-numbered, eot-numbered)
 
 -- ---- the format's parts
 
 module _ {lo hi : ℕ} {bare : ℕ → Bool} where
-  pub width-numbered : (limit : ℕ) → within lo hi 1 ≡ true → bare 11 ≡ true → bare 21 ≡ true
+  pub width-numbered : (limit : ℕ) → within lo hi 1 ≡ true → four bare 110 ≡ true → bare 21 ≡ true
       → Numbered lo hi bare (widthLine limit)
   unfolding widthLine
   width-numbered limit s u v = search numbers depth 40 fits 10000
@@ -181,7 +223,7 @@ module _ {lo hi : ℕ} {bare : ℕ → Bool} where
   array-numbered name s = search numbers depth 40 fits 10000
 
   pub rest-numbered : (name : List ℕ) (w h : ℕ) → within lo hi 3 ≡ true → within lo hi 4 ≡ true → within lo hi 5 ≡ true
-      → bare 13 ≡ true → bare 14 ≡ true → Numbered lo hi bare (headerRest name w h)
+      → four bare 130 ≡ true → four bare 140 ≡ true → Numbered lo hi bare (headerRest name w h)
   unfolding headerRest
   rest-numbered name w h r s t u v = search (numbers, array-numbered) depth 60 fits 20000
 
@@ -239,19 +281,17 @@ either {C} lo hi c d q f g = go (within lo hi c) refl q
     go false u v = g v
 
 -- what `in-header` says of a number
-abbrev pub HeaderNumber : ℕ → Type 0
-HeaderNumber c = ((21 ≤ c) × (c ≤ 22)) ⊎ ((11 ≤ c) × (c ≤ 14))
-
 pub header-number : (c : ℕ) → in-header c ≡ true → HeaderNumber c
-header-number c q = either 21 22 c _ q inl (λ r. inr (in-range 11 14 c r))
+header-number c q =
+    either 21 22 c _ q inl (λ r. either 111 114 c _ r (λ x. inr (inl x)) (λ r. either 121 124 c _ r (λ x. inr (inr (inl x))) (λ r. either 131 134 c _ r (λ x. inr (inr (inr (inl x)))) (λ r. inr (inr (inr (inr (in-range 141 144 c r))))))))
 
--- the least and the greatest of them
-pub header-bounds : (c : ℕ) → in-header c ≡ true → (11 ≤ c) × (c ≤ 22)
-header-bounds c q = go (header-number c q)
-  where
-    go : HeaderNumber c → (11 ≤ c) × (c ≤ 22)
-    go (inl (x, y)) = (omega arith, y)
-    go (inr (x, y)) = (x, omega arith)
+-- it is not 31, and at most 144
+pub header-bounds : (c : ℕ) → HeaderNumber c → (c ≡ 31 → ⊥) × (c ≤ 144)
+header-bounds c (inl (x, y)) = ((λ q. omega arith), omega arith)
+header-bounds c (inr (inl (x, y))) = ((λ q. omega arith), omega arith)
+header-bounds c (inr (inr (inl (x, y)))) = ((λ q. omega arith), omega arith)
+header-bounds c (inr (inr (inr (inl (x, y))))) = ((λ q. omega arith), omega arith)
+header-bounds c (inr (inr (inr (inr (x, y))))) = ((λ q. omega arith), omega arith)
 
 module _ {A : Type 0} {lo hi : ℕ} {bare : ℕ → Bool} {p : Reader A} (h : Numbered lo hi bare p) where
   pub wider : (a b : ℕ) → a ≤ lo → hi ≤ b → Numbered a b bare p
