@@ -36,7 +36,7 @@ abbrev pub Five : Type 0
 Five = Four × ℤ
 
 unfoldable pub fourth : ℕ → Reader Five
-fourth limit = third limit >>= λ b. line 4 (b .0 .0 .0) (ascii "_y_hot") (signed 14) >>= λ y. give (b, y)
+fourth limit = third limit >>= λ b. line 4 (b .0 .0 .0) (ascii "_y_hot") (signed 140) >>= λ y. give (b, y)
 
 abbrev pub Spotted : ℕ → Five → Lang
 Spotted limit c = Crossed limit (c .0) · Define (Word (c .0 .0 .0 .0 ++ ascii "_y_hot")) (Coordinate (c .1))
@@ -45,7 +45,7 @@ pub fourth-fits : (limit : ℕ) (c : Five) → Fits (fourth limit) c (Unit {0}) 
 unfolding fourth
 fourth-fits limit (b0, y0) =
     fit-drop (fit-bind b0 (λ b. Unit {0}) (Crossed limit) (λ b. Define (Word (b .0 .0 .0 ++ ascii "_y_hot")) (Coordinate y0)) (λ b. All solid (b .0 .0 .0)) (third-fits limit) (crossed-name limit) begins-any (λ b s.
-    fit-drop (fit-last y0 (λ y. Unit {0}) (λ y. Define (Word (b .0 .0 .0 ++ ascii "_y_hot")) (Coordinate y)) (λ y. hot-fits 4 14 (b .0 .0 .0) (ascii "y_hot") y s) (λ y. fit-give (b, y) (there b y, λ e. (ap (λ (r : Five). r .1) e, (ap (λ (r : Five). r .0) e, tt)))))))
+    fit-drop (fit-last y0 (λ y. Unit {0}) (λ y. Define (Word (b .0 .0 .0 ++ ascii "_y_hot")) (Coordinate y)) (λ y. hot-fits 4 140 (b .0 .0 .0) (ascii "y_hot") y s) (λ y. fit-give (b, y) (there b y, λ e. (ap (λ (r : Five). r .1) e, (ap (λ (r : Five). r .0) e, tt)))))))
   where
     there : (b : Four) (y : ℤ) → (y ≡ y0) × ((b ≡ b0) × Unit {0}) → _≡_ {A = Five} (b, y) (b0, y0)
     there b y (p, (q, u)) = rw (p, q)

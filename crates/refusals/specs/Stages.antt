@@ -128,6 +128,15 @@ need-none {A} {B} o f c t i n = go o
     go none = ((λ q. refl), λ q. (i, refl))
     go (some a) = ((λ (q, u). absurd (n a .quiet t i q u)), λ q. (let z : _≡_ {A = ℕ} 0 1 = cc in absurd (omega arith)))
 
+-- with whatever number it has
+pub need-told : {A B : Type 0} (o : Option A) (f : A → Reader B) (d c : ℕ) (t : List ℕ) (i : TextLocation) → ((a : A) → Quiet c (f a)) → ((q : TextLocation) × ((need d o >>= f) t i ≡ bad c q)) ↔ ((o ≡ none) × (d ≡ c))
+unfolding _>>=_ need
+need-told {A} {B} o f d c t i n = go o
+  where
+    go : (o : Option A) → ((q : TextLocation) × (then (need d o t i) (λ a e. f a t e) ≡ bad c q)) ↔ ((o ≡ none) × (d ≡ c))
+    go none = ((λ (q, u). (refl, cc)), λ (u, v). (i, rw v))
+    go (some a) = ((λ (q, u). absurd (n a .quiet t i q u)), λ (u, v). (let z : _≡_ {A = ℕ} 0 1 = cc in absurd (omega arith)))
+
 pub need-some : {A B : Type 0} (o : Option A) (f : A → Reader B) (d c : ℕ) (t : List ℕ) (i : TextLocation) → (d ≡ c → ⊥) → ((q : TextLocation) × ((need d o >>= f) t i ≡ bad c q)) ↔ ((a : A) × (o ≡ some a) × ((q : TextLocation) × (f a t i ≡ bad c q)))
 unfolding _>>=_ need
 need-some {A} {B} o f d c t i k = go o

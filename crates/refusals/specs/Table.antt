@@ -13,23 +13,8 @@ use Rattle.text.specs.Outcome.{unplaced, outcome}
 use Rattle.header.specs.Header.{Head, header}
 use Rattle.rows.specs.Rows.{whole}
 use Rattle.image.specs.Reading.{picture, reading}
-use Rattle.claims.specs.Numbers.{header-numbered, whole-numbered, placed-number, unplaced-number, thirty-one, HeaderNumber, header-number}
+use Rattle.claims.specs.Numbers.{header-numbered, whole-numbered, placed-number, unplaced-number, thirty-one, header-number}
 use Rattle.refusals.specs.Terms.{InTable}
-
--- one of four numbers in a row: a case for each
-four : {C : Type 0} (lo c : ℕ) → lo ≤ c → c ≤ lo + 3 → (c ≡ lo → C) → (c ≡ lo + 1 → C) → (c ≡ lo + 2 → C) → (c ≡ lo + 3 → C) → C
-four {C} lo c x y f g h k = go (c - lo) refl
-  where
-    go : (n : ℕ) → c - lo ≡ n → C
-    go zero q = f (omega arith)
-    go (suc zero) q = g (omega arith)
-    go (suc (suc zero)) q = h (omega arith)
-    go (suc (suc (suc n))) q = k (omega arith)
-
--- the header's numbers without a place are in the table
-of-header : (c : ℕ) → HeaderNumber c → InTable (unplaced c)
-of-header c (inl (x, y)) = four 21 c x (omega arith) (λ q. inr (inr (inr (inr (inl q))))) (λ q. inr (inr (inr (inr (inr (inl q)))))) (λ q. absurd (omega arith)) (λ q. absurd (omega arith))
-of-header c (inr (x, y)) = four 11 c x y inl (λ q. inr (inl q)) (λ q. inr (inr (inl q))) (λ q. inr (inr (inr (inl q))))
 
 pub in-table : (text name pixels : List ℕ) → InTable (reading text name pixels .answer)
 unfolding reading picture _>>=_ give
@@ -38,9 +23,9 @@ in-table text name pixels = go (header (length name) text start) refl
     after : (h : Head) (e : TextLocation) (r : Result (List ℕ)) → whole (h .width) (h .height) (length pixels) text e ≡ r → InTable (outcome (λ (p : Head × List ℕ). p .0) (then r (λ l e. ok (h, l) e)))
     after h e (ok l m) q = tt
     after h e (stop c m) q = let (x, y) = placed-number (whole-numbered (h .width) (h .height) (length pixels)) text e c m q in (omega arith, y)
-    after h e (bad c m) q = inr (inr (inr (inr (inr (inr (thirty-one (whole-numbered (h .width) (h .height) (length pixels)) text e c m q))))))
+    after h e (bad c m) q = inr (thirty-one (whole-numbered (h .width) (h .height) (length pixels)) text e c m q)
 
     go : (r : Result Head) → header (length name) text start ≡ r → InTable (outcome (λ (p : Head × List ℕ). p .0) (then r (λ h e. then (whole (h .width) (h .height) (length pixels) text e) (λ l e. ok (h, l) e))))
     go (ok h e) q = after h e (whole (h .width) (h .height) (length pixels) text e) refl
     go (stop c e) q = let (x, y) = placed-number (header-numbered (length name)) text start c e q in (x, omega arith)
-    go (bad c e) q = of-header c (header-number c (unplaced-number (header-numbered (length name)) text start c e q))
+    go (bad c e) q = inl (header-number c (unplaced-number (header-numbered (length name)) text start c e q))
