@@ -16,7 +16,7 @@ use Rattle.error.specs.declared.XbmDecodeError.{XbmDecodeError}
 use Rattle.error.specs.declared.XbmDecodeError.the-variants.{Parse, DecodeInteger}
 use Rattle.error.specs.declared.Refusal.the-variants.{Placed, Unplaced}
 
--- no step of the sum that makes an integer's number leaves its type
+-- no step of a sum such as makes an integer's number leaves its type
 fault-small : (f : Fault) → faultNumber f ≤ 4
 fault-small Empty = omega arith
 fault-small LeadingZero = omega arith
@@ -27,11 +27,11 @@ module _ (part : XbmPart) {n : ℕ} (e : n ≡ number part) where
   pub tens-fit : Fits w32 (10 * n)
   tens-fit = record { fits = omega (arith, number-small part) }
 
-  pub hundred-fits : Fits w32 (100 + 10 * n)
-  hundred-fits = record { fits = omega (arith, number-small part) }
+  pub hundred-fits : {a : ℕ} → a ≤ 1000 → Fits w32 (a + 10 * n)
+  hundred-fits l = record { fits = omega (arith, number-small part) }
 
-  pub integer-fits : (f : Fault) {k : ℕ} → k ≡ faultNumber f → Fits w32 (100 + 10 * n + k)
-  integer-fits f h = record { fits = omega (arith, number-small part, fault-small f) }
+  pub integer-fits : {a : ℕ} → a ≤ 1000 → (f : Fault) {k : ℕ} → k ≡ faultNumber f → Fits w32 (a + 10 * n + k)
+  integer-fits l f h = record { fits = omega (arith, number-small part, fault-small f) }
 
 pub ruleset integer·laws = (tens-fit, hundred-fits, integer-fits)
 

@@ -28,8 +28,12 @@ use Rattle.faults.specs.Terms.{Nothing, ZeroLed, Plain, Marred, Above, B
 never : {C : Type 0} {v : List ℕ} {a : ℕ} → _≡_ {A = List ℕ} [] (a ∷ v) → C
 never q = let z : _≡_ {A = ℕ} 0 1 = cc in absurd (omega arith)
 
+abbrev rest : List ℕ → List ℕ
+rest [] = []
+rest (x ∷ w) = w
+
 single-plain : (d : ℕ) → Plain (d ∷ [])
-single-plain d = ((λ q. never (sym q)), λ (b, v, q). (let z : [] ≡ b ∷ v = cc in never z))
+single-plain d = ((λ q. never (sym q)), λ (b, v, q). never (ap rest q))
 
 several-plain : (d e : ℕ) (t : List ℕ) → (d ≡ 48 → ⊥) → Plain (d ∷ e ∷ t)
 several-plain d e t n = ((λ q. never (sym q)), λ (b, v, q). n (cc q))
