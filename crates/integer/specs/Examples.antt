@@ -51,8 +51,8 @@ rows =
     ∷ row (ascii "4294967295") (Value 4294967295) (Wrong OutOfRange)
     ∷ row (ascii "4294967296") (Bad OutOfRange) (Wrong OutOfRange)
     ∷ row (ascii "99999999999") (Bad OutOfRange) (Wrong OutOfRange)
-    ∷ row (replicate 1000 57) (Bad OutOfRange) (Wrong OutOfRange)
-    ∷ row (replicate 1000 57 ++ ascii "z") (Bad NotDigit) (Wrong NotDigit)
+    ∷ row (replicate 3000 57) (Bad OutOfRange) (Wrong OutOfRange)
+    ∷ row (replicate 3000 57 ++ ascii "z") (Bad NotDigit) (Wrong NotDigit)
     ∷ []
 
 -- the same by the definitions
