@@ -1,6 +1,6 @@
 -- Which numbers a refusal can have. With a place: 1 to 5 in the header, 6 in data, 7 up to the semicolon, 8 after it. Without one: those that pass a test, `in-header` in the header, and then only 31.
 use mathlib.Core.Path.{_≡_, refl, sym, _∙_}
-use mathlib.Core.Logic.{_⊎_, inl, inr}
+use mathlib.Core.Logic.{inl, inr}
 use Prim.Native.Nat.{ℕ, zero, suc, _+_, _/_, _≤_}
 use native.Mathlib.Omega.{arith}
 use mathlib.Core.Option.{Option, none, some}

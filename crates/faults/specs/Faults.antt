@@ -1,6 +1,6 @@
 -- THE CLAIMS ON AN INTEGER'S TOKEN: what is answered of it, and of one that is none which of four faults it has. To believe them, read the words
 -- (Terms, and the grammar's integers) and this file. No reader stands in a statement but `parseU32` and `parseI32`, which the contracts of the code cite.
-use mathlib.Core.Path.{_≡_, sym}
+use mathlib.Core.Path.{_≡_}
 use mathlib.Core.Logic.{_↔_, _⊎_, inl, inr}
 use Prim.Native.Nat.{ℕ}
 use native.Mathlib.Omega.{arith}

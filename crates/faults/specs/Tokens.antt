@@ -1,7 +1,7 @@
 -- The reader's answer for a token, in these words: each answer is given just where they hold.
 use mathlib.Core.Path.{_≡_, refl, sym, ap, _∙_}
 use mathlib.Core.Logic.{_⊎_, inl, inr}
-use Prim.Native.Nat.{ℕ, suc, _+_, _-_, _*_, _≤_, _<_}
+use Prim.Native.Nat.{ℕ, _+_, _-_, _≤_, _<_}
 use native.Mathlib.Omega.{arith}
 use native.Mathlib.Decide.{decLe}
 use mathlib.Core.Option.{some}
@@ -9,7 +9,7 @@ use mathlib.Core.Bool.{Bool, true, false, false≢true}
 use mathlib.Core.List.{List, [], _∷_, _++_}
 use lib.Dec.{eqb, leb}
 use lib.IntN.{ℤ, pos, negℤ}
-use borrow.Author.Tests.{eqb-true, eqb-false, eq-eqb, ne-eqb, leb-true, leb-false, le-leb, lt-leb}
+use borrow.Author.Tests.{eqb-true, eqb-false, ne-eqb, leb-true, leb-false, lt-leb}
 use Rattle.text.specs.Place.{pick}
 use Rattle.integer.specs.declared.Fault.{Fault}
 use Rattle.integer.specs.declared.Fault.the-variants.{Empty, LeadingZero, NotDigit, OutOfRange}
@@ -21,7 +21,7 @@ use Rattle.integer.specs.Decimal.{isDigit, allDigits, valueFrom, digitsFrom, pa
 use Rattle.grammar.specs.Lang.{Word, _·_}
 use Rattle.grammar.specs.Grammar.{Digits, value, Decimal, Coordinate}
 use Rattle.grammar.specs.Tests.{value-same, digits-true, true-digits, valued, coordinate→integer}
-use Rattle.faults.specs.Terms.{Nothing, ZeroLed, Plain, Marred, Above, Behind, PastSign, Beyond, Says, SaysSigned}
+use Rattle.faults.specs.Terms.{Plain, Marred, Above, Behind, Says, SaysSigned}
 
 -- ---- no two of the words hold of one token
 
