@@ -46,7 +46,7 @@ PastSign F w = (v : List ℕ) × Behind w v × F v
 
 -- its value is above 2,147,483,648 behind a `-`, or above 2,147,483,647
 abbrev pub Beyond : Lang
-Beyond w = ((v : List ℕ) × (w ≡ 45 ∷ v) × Above 2147483648 v) ⊎ (((u : List ℕ) → w ≡ 45 ∷ u → ⊥) × Above 2147483647 w)
+Beyond w = ((v : List ℕ) × (w ≡ 45 ∷ v) × Above 2147483648 v) ⊎ Above 2147483647 w
 
 -- ---- what an answer says of its token
 

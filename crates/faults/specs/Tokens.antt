@@ -120,6 +120,10 @@ plus-parse : (w : List ℕ) → ((u : List ℕ) → w ≡ 45 ∷ u → ⊥) → 
 plus-parse [] n = refl
 plus-parse (x ∷ w) n = rw (ne-eqb x 45 (λ q. n w (ap (λ (b : ℕ). b ∷ w) q)))
 
+-- no sign leads digits
+digits-unsigned : (w : List ℕ) → Digits w → (u : List ℕ) → w ≡ 45 ∷ u → ⊥
+digits-unsigned w d u e = let (h, t) = rw e at d in omega (arith, h)
+
 fault-parse : (f : Fault) (w v : List ℕ) → Behind w v → parseU32 v ≡ Bad f → parseI32 w ≡ Wrong f
 fault-parse f w v (inl e) q = minus-parse w v e ∙ ap negative q
 fault-parse f w v (inr (e, n)) q = plus-parse w n ∙ ap positive (ap parseU32 e ∙ q)
@@ -159,7 +163,7 @@ says-signed (Wrong Empty) w (v, b, h) = fault-parse Empty w v b (says-answer (Ba
 says-signed (Wrong LeadingZero) w (v, b, h) = fault-parse LeadingZero w v b (says-answer (Bad LeadingZero) v h)
 says-signed (Wrong NotDigit) w (v, b, h) = fault-parse NotDigit w v b (says-answer (Bad NotDigit) v h)
 says-signed (Wrong OutOfRange) w (inl (v, e, h)) = minus-parse w v e ∙ minus-over v h
-says-signed (Wrong OutOfRange) w (inr (n, h)) = plus-parse w n ∙ plus-over w h
+says-signed (Wrong OutOfRange) w (inr (p, d, l)) = plus-parse w (digits-unsigned w d) ∙ plus-over w (p, d, l)
 
 module _ (w v : List ℕ) where
   minus-says : w ≡ 45 ∷ v → (u : Unsigned) → Says u v → SaysSigned (negative u) w
@@ -180,11 +184,11 @@ plus-says w s (Value n) (d, l) = go (leb n 2147483647) refl
   where
     go : (b : Bool) → leb n 2147483647 ≡ b → SaysSigned (pick b (Number (pos n)) (Wrong OutOfRange)) w
     go true h = (n, inl (d, refl, omega (arith, leb-true n 2147483647 h)))
-    go false h = let (p, g, q) = decimal-plain n w d in inr (s, (p, g, omega (arith, leb-false n 2147483647 h)))
+    go false h = let (p, g, q) = decimal-plain n w d in inr (p, g, omega (arith, leb-false n 2147483647 h))
 plus-says w s (Bad Empty) h = (w, inr (refl, s), h)
 plus-says w s (Bad LeadingZero) h = (w, inr (refl, s), h)
 plus-says w s (Bad NotDigit) h = (w, inr (refl, s), h)
-plus-says w s (Bad OutOfRange) (p, g, l) = inr (s, (p, g, omega arith))
+plus-says w s (Bad OutOfRange) (p, g, l) = inr (p, g, omega arith)
 
 pub signed-says : (w : List ℕ) → SaysSigned (parseI32 w) w
 signed-says [] = ([], inr (refl, λ u q. never q), refl)
