@@ -23,7 +23,7 @@ use Rattle.grammar.specs.Grammar.{Digits, value, Decimal, Coordinate}
 use Rattle.grammar.specs.Tests.{value-same, digits-true, true-digits, valued, coordinate→integer}
 use Rattle.faults.specs.Terms.{Plain, Marred, Above, Behind, Says, SaysSigned}
 
--- ---- no two of the words hold of one token
+-- ---- tokens that are not empty and that no zero leads
 
 never : {C : Type 0} {v : List ℕ} {a : ℕ} → _≡_ {A = List ℕ} [] (a ∷ v) → C
 never q = let z : _≡_ {A = ℕ} 0 1 = cc in absurd (omega arith)
