@@ -18,7 +18,12 @@
  *   1 width line, 2 height line, 3 hotspot x line, 4 hotspot y line, 5 array line,
  *   6 data bytes, 7 trailer up to `;`, 8 bytes after `;`          (these tell a place)
  *   9 a decoder whose numbers no header of this text gave
- *   11, 12, 13, 14 width, height, x, y is no integer in range
+ *   111 to 114 width, 121 to 124 height, 131 to 134 x, 141 to 144 y: the token is no integer in range. The last
+ *   digit is the first of these faults that it has; a leading `-` of x or y stands aside in the first three:
+ *     1 nothing there
+ *     2 a leading zero, with any byte behind it
+ *     3 a byte that is no digit
+ *     4 too large or too small: a side is at most 4294967295, x and y are from -2147483648 to 2147483647
  *   21, 22 width, height is zero
  *   31 the pixel buffer's whole rows are not the picture's
  *

@@ -1,8 +1,9 @@
 //! One call on both sides, with everything compared: answer, report, hotspot, whole buffers, decoder, and what
-//! must stay as it was: the text, and the bytes beside each lent thing. The start of a line, which the original
-//! does not have, is taken off first and held to the text.
+//! must stay as it was: the text, and the bytes beside each lent thing. What the original does not tell is taken off
+//! first and held to the text: the start of a line, and which fault an integer has.
 
 use crate::classes::Reached;
+use crate::integers;
 use crate::interface::{entry, Answer, Call, Interface, Stray, StreamDecoder, TextLocation};
 use crate::interface::{NONE_LEFT, NO_HOTSPOT_ENTRY};
 use crate::random::Random;
@@ -31,15 +32,16 @@ pub type OriginalReport = [u64; entry::START];
 /// A report that tells nothing.
 const NOTHING: OriginalReport = [0; entry::START];
 
-/// What is compared with the original: an answer and a decoder without the starts.
+/// What is compared with the original: an answer with its numbers and without the start.
 impl Answer {
-    pub fn without_start(self) -> Answer<OriginalReport> {
+    pub fn as_original(self) -> Answer<OriginalReport> {
         let Answer { result, report, hotspot, stray } = self;
         let [report @ .., _start, _reserved] = report;
-        Answer { result, report, hotspot, stray }
+        Answer { result: integers::of_original(result), report, hotspot, stray }
     }
 }
 
+/// And a decoder without the start.
 impl StreamDecoder {
     pub fn without_start(self) -> StreamDecoder<Place> {
         let StreamDecoder { width, height, current_position, location } = self;
@@ -172,16 +174,32 @@ const ACCEPTED_NONE: usize = 10;
 const FOREIGN_START: usize = 15;
 
 /// The numbers that each call can give, all of which a run must reach.
+#[rustfmt::skip]
 const REACHED: [&[usize]; 3] = [
-    &[0, 1, 2, 3, 4, 5, 11, 12, 13, 14, 21, 22],
-    &[0, 1, 2, 3, 4, 5, 6, 7, 8, 11, 12, 13, 14, 21, 22, 31],
+    &[
+        0, 1, 2, 3, 4, 5, 21, 22,
+        111, 112, 113, 114, 121, 122, 123, 124, 131, 132, 133, 134, 141, 142, 143, 144,
+    ],
+    &[
+        0, 1, 2, 3, 4, 5, 6, 7, 8, 21, 22, 31,
+        111, 112, 113, 114, 121, 122, 123, 124, 131, 132, 133, 134, 141, 142, 143, 144,
+    ],
     &[0, 6, 7, 8, FOREIGN as usize, ACCEPTED_NONE, FOREIGN_START],
 ];
 
-/// How often each call gave each number.
-#[derive(Clone, Default)]
+/// No call gives a number as large as this.
+const NUMBERS: usize = 145;
+
+/// How often each call of ours gave each number.
+#[derive(Clone)]
 pub struct Tally {
-    counts: [[u64; 32]; 3],
+    counts: [[u64; NUMBERS]; 3],
+}
+
+impl Default for Tally {
+    fn default() -> Tally {
+        Tally { counts: [[0; NUMBERS]; 3] }
+    }
 }
 
 impl Tally {
@@ -241,6 +259,8 @@ pub struct Comparison<'i> {
     fillings: Vec<u8>,
     /// Where the next filling begins.
     next_filling: usize,
+    /// What ours gave to the last header or image.
+    pub last_number: u32,
     pub tally: Tally,
     pub reached: Reached,
 }
@@ -256,6 +276,7 @@ impl<'i> Comparison<'i> {
             ours: Side::default(),
             fillings: (0..length).map(|_| random.within(1, 254) as u8).collect(),
             next_filling: 0,
+            last_number: 0,
             tally: Tally::default(),
             reached: Reached::default(),
         }
@@ -400,15 +421,18 @@ impl<'i> Comparison<'i> {
         mut ours: Answer,
     ) -> Result<(), Difference> {
         let wrong_start = starts::wrong(call, text.bytes, Taken::FROM_THE_FIRST, &ours, None);
+        let wrong_fault = integers::wrong(text.bytes, expected.result, ours.result);
+        let wrong = wrong_fault.or(wrong_start);
         let (original, side) = (&self.original, &self.ours);
         ours.stray = ours.stray.or(side.name.stray("name buffer", &original.name));
         ours.stray = ours.stray.or(side.pixels.stray("pixel buffer", &original.pixels));
         ours.stray = ours.stray.or(self.text.stray());
         let buffers_agree =
             original.name.bytes == side.name.bytes && original.pixels.bytes == side.pixels.bytes;
-        let answers_agree = expected == ours.without_start() && wrong_start.is_none();
+        let answers_agree = expected == ours.as_original() && wrong.is_none();
         if answers_agree && buffers_agree && self.text.kept(text) {
-            self.tally.add(call, expected.result as usize);
+            self.last_number = ours.result;
+            self.tally.add(call, ours.result as usize);
             return Ok(());
         }
         let mut out = self.heading(CALLS[call as usize].1, text);
@@ -428,7 +452,7 @@ impl<'i> Comparison<'i> {
                     .unwrap();
             }
         }
-        write_answers(&mut out, &expected, &ours, wrong_start);
+        write_answers(&mut out, &expected, &ours, wrong);
         Err(out)
     }
 
@@ -441,7 +465,7 @@ impl<'i> Comparison<'i> {
         wrong_start: Option<String>,
     ) -> Result<(), Difference> {
         ours.0.stray = ours.0.stray.or(self.text.stray());
-        let compared = (ours.0.without_start(), ours.1.without_start());
+        let compared = (ours.0.as_original(), ours.1.without_start());
         if expected == compared && wrong_start.is_none() && self.text.kept(text) {
             return Ok(());
         }
@@ -549,11 +573,15 @@ fn write_answers(
     out: &mut String,
     expected: &Answer<OriginalReport>,
     ours: &Answer,
-    wrong_start: Option<String>,
+    wrong: Option<String>,
 ) {
     writeln!(out, "expected: {}", told(expected)).unwrap();
     writeln!(out, "ours:     {}", told(ours)).unwrap();
-    if let Some(wrong) = wrong_start {
+    let counted = integers::of_original(ours.result);
+    if integers::line(counted).is_some() {
+        writeln!(out, "ours:     {} counts as the original's {counted}", ours.result).unwrap();
+    }
+    if let Some(wrong) = wrong {
         writeln!(out, "ours:     {wrong}").unwrap();
     }
 }

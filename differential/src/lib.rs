@@ -1,5 +1,6 @@
 //! Holds the proved reader to the original: what is called, on which texts, and what is compared.
 
+pub mod integers;
 pub mod interface;
 pub mod library;
 pub mod random;

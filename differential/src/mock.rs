@@ -1,6 +1,7 @@
 //! A stand-in for the proved reader, made of the original, with faults planted at will.
 //! It only tests the comparison: no result of it says anything of the proved reader.
 
+use crate::integers::{self, LEADING_ZERO, NOTHING_THERE, NO_DIGIT, OUT_OF_RANGE};
 use crate::interface::{entry, Call, Interface, StreamDecoder, TextLocation, ENTRIES};
 use oracle::{Decoder, Header, Place, Refusal};
 use std::cell::Cell;
@@ -75,10 +76,47 @@ pub enum Fault {
     ForeignStart(Unseen),
     /// A foreign decoder's start is put right.
     ForeignStartChanged,
+    /// The faults of an integer are mixed up.
+    Integer(Mixed),
     /// The call changes its text.
     TextChanged(Call),
     /// The call writes a byte just before or just past something that it is lent.
     Stray(Call, Thing, Side),
+}
+
+/// Ways to mix up the faults of an integer.
+#[derive(Clone, Copy, Debug, PartialEq, Eq)]
+pub enum Mixed {
+    /// The call does not tell them apart: it gives the original's number.
+    OneNumber(Call),
+    /// Digits are tested before the leading zero.
+    DigitsFirst,
+    /// The reading stops where the number becomes too large.
+    StopsAtOverflow,
+    /// The same, but only at the last of eleven bytes.
+    StopsBeforeTheLast,
+    /// A zero is a leading one only before a digit.
+    ZeroBeforeDigit,
+    /// A zero is a leading one only before another byte than `-`.
+    ZeroBeforeSign,
+    /// A zero after the sign is no leading one.
+    ZeroAfterSign,
+    /// Where nothing is there, that is a byte that is no digit.
+    Nothing,
+    /// A sign alone is a byte that is no digit.
+    SignAlone,
+    /// A side may have a sign.
+    SignOfSide,
+    /// A number that is too small has a byte that is no digit.
+    TooSmall,
+    /// A number that is too small gets a fifth number.
+    FifthNumber,
+    /// A fault of y is told of x.
+    OtherLine,
+    /// A byte above the digits, just past them, is taken for one.
+    Colon,
+    /// And so is a byte above 127.
+    HighByte,
 }
 
 /// Foreign starts that a fault takes. The last four leave out what is close to another of them.
@@ -180,6 +218,26 @@ impl Fault {
         Fault::ForeignStart(Unseen::Largest),
         Fault::ForeignStart(Unseen::OneTooFew),
         Fault::ForeignStart(Unseen::OneTooMany),
+    ];
+
+    /// Those of the integers, each with what is to be said of it.
+    pub const INTEGERS: [(Fault, &str); 16] = [
+        (Fault::Integer(Mixed::OneNumber(Call::ReadHeader)), "the number is 1"),
+        (Fault::Integer(Mixed::OneNumber(Call::ReadImage)), "the number is 1"),
+        (Fault::Integer(Mixed::DigitsFirst), "3, but \"0"),
+        (Fault::Integer(Mixed::StopsAtOverflow), "4, but \""),
+        (Fault::Integer(Mixed::StopsBeforeTheLast), "4, but \""),
+        (Fault::Integer(Mixed::ZeroBeforeDigit), "3, but \"0"),
+        (Fault::Integer(Mixed::ZeroBeforeSign), "3, but \"0-"),
+        (Fault::Integer(Mixed::ZeroAfterSign), "but \"-0"),
+        (Fault::Integer(Mixed::Nothing), "3, but \"\" gets 1"),
+        (Fault::Integer(Mixed::SignAlone), "3, but \"-\" gets 1"),
+        (Fault::Integer(Mixed::SignOfSide), "but \"-"),
+        (Fault::Integer(Mixed::TooSmall), "3, but \"-"),
+        (Fault::Integer(Mixed::FifthNumber), "the number is 135, but \"-"),
+        (Fault::Integer(Mixed::OtherLine), "the number is 13"),
+        (Fault::Integer(Mixed::Colon), ":"),
+        (Fault::Integer(Mixed::HighByte), "\\x"),
     ];
 
     /// Those that write where nothing may be written, each with what is to be said of it.
@@ -323,7 +381,13 @@ fn tell_header(report: &mut [u64], hotspot: &mut [i32], header: Header) {
     }
 }
 
-fn refuse(report: &mut [u64], text: &[u8], from: TextLocation, refusal: Refusal) -> u32 {
+fn refuse(
+    call: Call,
+    report: &mut [u64],
+    text: &[u8],
+    from: TextLocation,
+    refusal: Refusal,
+) -> u32 {
     if let Some(place) = refusal.place {
         let mut place = located(text, from, place);
         if planted(Fault::Column) && refusal.number == 7 {
@@ -338,7 +402,54 @@ fn refuse(report: &mut [u64], text: &[u8], from: TextLocation, refusal: Refusal)
         }
         tell(report, place);
     }
-    refusal.number
+    our_number(call, text, refusal.number)
+}
+
+/// Our number for one of the original's: of an integer it tells the fault.
+fn our_number(call: Call, text: &[u8], original: u32) -> u32 {
+    let mixed = |how| planted(Fault::Integer(how));
+    let Some(line) = integers::line(original) else {
+        return original;
+    };
+    if mixed(Mixed::OneNumber(call)) {
+        return original;
+    }
+    let token = integers::token(text, line).expect("a line that the original has read");
+    let negative = token.starts_with(b"-") && (line > 1 || mixed(Mixed::SignOfSide));
+    let part = &token[usize::from(negative)..];
+    let is_digit = |b: &u8| match b {
+        b'0'..=b'9' => true,
+        b':' => mixed(Mixed::Colon),
+        128.. => mixed(Mixed::HighByte),
+        _ => false,
+    };
+    let digits = part.iter().take_while(|b| is_digit(b)).count();
+    let zero = match part {
+        [] | [b'0'] => false,
+        [b'0', ..] if negative && mixed(Mixed::ZeroAfterSign) => false,
+        [b'0', b'-', ..] if mixed(Mixed::ZeroBeforeSign) => false,
+        [b'0', after, ..] => !mixed(Mixed::ZeroBeforeDigit) || is_digit(after),
+        _ => false,
+    };
+    let other_byte = digits < part.len();
+    // Where a byte that is no digit is not looked for any more.
+    let stops = mixed(Mixed::StopsAtOverflow)
+        || mixed(Mixed::StopsBeforeTheLast) && token.len() == 11 && digits + 1 == part.len();
+    let overflow = part[..digits].iter().fold(0, |n, &b| 10 * n + u64::from(b & 15)) >> 32 > 0;
+    let fault = if part.is_empty() {
+        let missed = mixed(Mixed::Nothing) || negative && mixed(Mixed::SignAlone);
+        [NOTHING_THERE, NO_DIGIT][usize::from(missed)]
+    } else if zero && !(other_byte && mixed(Mixed::DigitsFirst)) {
+        LEADING_ZERO
+    } else if other_byte && !(stops && overflow) || negative && mixed(Mixed::TooSmall) {
+        NO_DIGIT
+    } else if negative && mixed(Mixed::FifthNumber) {
+        5
+    } else {
+        OUT_OF_RANGE
+    };
+    let told_of = if mixed(Mixed::OtherLine) { original.min(13) } else { original };
+    10 * told_of + fault
 }
 
 /// Report and hotspot, all entries 0.
@@ -373,7 +484,7 @@ unsafe extern "C" fn read_header(
     match oracle::read_header(text, name) {
         Ok(read) => {
             if planted(Fault::WidestRefused) && read.header.width == u32::MAX {
-                return 11;
+                return 114;
             }
             tell(report, located(text, TextLocation::START, read.place));
             tell_header(report, hotspot, read.header);
@@ -391,7 +502,7 @@ unsafe extern "C" fn read_header(
             if planted(Fault::NameByte) && refusal.place.is_some_and(|p| p.byte == 264) {
                 *name.last_mut().unwrap() = last.unwrap();
             }
-            refuse(report, text, TextLocation::START, refusal)
+            refuse(CALL, report, text, TextLocation::START, refusal)
         }
     }
 }
@@ -445,7 +556,7 @@ unsafe extern "C" fn next_byte(
             report[7] = byte.map_or(256, u64::from);
             0
         }
-        Err(refusal) => refuse(report, text, location, refusal),
+        Err(refusal) => refuse(CALL, report, text, location, refusal),
     }
 }
 
@@ -518,7 +629,7 @@ unsafe extern "C" fn read_image(
             {
                 hotspot.copy_from_slice(&[x, y]);
             }
-            refuse(report, text, TextLocation::START, refusal)
+            refuse(CALL, report, text, TextLocation::START, refusal)
         }
     }
 }

@@ -36,7 +36,7 @@ const DRAWN: usize = 900;
 /// The numbers that the original gives.
 const NUMBERS: [usize; 15] = [1, 2, 3, 4, 5, 6, 7, 8, 11, 12, 13, 14, 21, 22, 31];
 
-/// What answers for a text, a name buffer and a pixel buffer. The list has no starts of lines.
+/// What answers for a text, a name buffer and a pixel buffer. The list has the original's numbers, and no starts.
 type Reader<'r> = &'r dyn Fn(&[u8], &mut [u8], &mut [u8]) -> Answer<OriginalReport>;
 
 /// A list while it is made.
@@ -393,7 +393,7 @@ fn buffers(text: &[u8]) -> [usize; 9] {
 mod tests {
     use super::*;
     use crate::interface::Interface;
-    use crate::mock::{self, Fault};
+    use crate::mock::{self, Fault, Mixed};
     use std::fs;
 
     #[test]
@@ -416,7 +416,7 @@ mod tests {
         let stored = List::stored().bytes();
         let made_by = |interface: Interface| {
             List::of_families(&|text, name, pixels| {
-                interface.read_image(&mut text.to_vec(), name, pixels).without_start()
+                interface.read_image(&mut text.to_vec(), name, pixels).as_original()
             })
             .bytes()
         };
@@ -429,8 +429,11 @@ mod tests {
             Fault::NameTakenBack,
             Fault::EarlyMismatch,
             Fault::Bits,
+            Fault::Integer(Mixed::OtherLine),
         ] {
             assert!(made_by(mock::with_fault(fault)) != stored, "{fault:?} passed unseen");
         }
+        // The four faults of an integer have one number in the list.
+        assert!(made_by(mock::with_fault(Fault::Integer(Mixed::DigitsFirst))) == stored);
     }
 }

@@ -174,7 +174,8 @@ mod tests {
         for (call, result) in [
             (Call::ReadImage, 0),
             (Call::ReadImage, 31),
-            (Call::ReadHeader, 11),
+            (Call::ReadHeader, 111),
+            (Call::ReadImage, 144),
             (Call::ReadHeader, 21),
         ] {
             let start = |start| TextLocation { byte: 0, line: 0, column: 0, start };

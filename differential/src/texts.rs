@@ -231,6 +231,17 @@ impl Mask {
         mask
     }
 
+    /// The token of the line with this index: width, height, x, y. The mask gets a hotspot.
+    pub fn token(&mut self, line: usize) -> &mut Vec<u8> {
+        let [x, y] = self.hotspot.get_or_insert([b"1".to_vec(), b"2".to_vec()]);
+        match line {
+            0 => &mut self.width,
+            1 => &mut self.height,
+            2 => x,
+            _ => y,
+        }
+    }
+
     /// The mask's text. Only the loose layout draws numbers.
     pub fn text(&self, random: &mut Random) -> Vec<u8> {
         let spacing = self.layout.spacing();
@@ -526,14 +537,7 @@ pub fn misshapen(random: &mut Random) -> Vec<u8> {
             1..=4 => random.pick(TOKENS).into(),
             _ => (0..random.within(1, 13)).map(|_| random.pick_byte(b"0123456789-")).collect(),
         };
-        let [x, y] = mask.hotspot.get_or_insert([b"1".to_vec(), b"2".to_vec()]);
-        let replaced = match random.below(4) {
-            0 => &mut mask.width,
-            1 => &mut mask.height,
-            2 => x,
-            _ => y,
-        };
-        *replaced = token;
+        *mask.token(random.below(4)) = token;
     }
     let surplus = random.below(3);
     match random.below(6) {
@@ -546,6 +550,28 @@ pub fn misshapen(random: &mut Random) -> Vec<u8> {
         return reordered(random, &text);
     }
     text
+}
+
+/// A mask with one token mistyped: a sign, a zero and digits, each drawn or left out, and at times another byte.
+pub fn mistyped(random: &mut Random) -> Vec<u8> {
+    let mut token = Vec::new();
+    if random.once_in(3) {
+        token.push(b'-');
+    }
+    if random.once_in(4) {
+        token.push(b'0');
+    }
+    for _ in 0..random.below(12 - token.len()) {
+        token.push(random.pick_byte(b"0123456789"));
+    }
+    if random.once_in(2) {
+        let at = random.below(token.len() + 1);
+        let letters: &[u8] = if random.once_in(2) { b"/:z-+\r\0" } else { &[] };
+        token.insert(at, odd_byte(random, letters));
+    }
+    let mut mask = Mask::random(random);
+    *mask.token(random.below(4)) = token;
+    mask.text(random)
 }
 
 /// The text with two lines exchanged, or one left out or doubled.

@@ -3,6 +3,7 @@
 use crate::classes::Reached;
 use crate::comparison::{data_size, Accepted, Comparison, Difference, Tally, Text};
 use crate::comparison::{LONGEST_BUFFER, LONGEST_NAME};
+use crate::integers;
 use crate::interface::{Interface, StreamDecoder, TextLocation};
 use crate::random::Random;
 use crate::texts::{self, Layout, Mask, TELLING, TOKENS};
@@ -83,6 +84,7 @@ impl Trials<'_> {
         self.cuts()?;
         self.single_changes()?;
         self.integers()?;
+        self.faults_of_integers()?;
         self.symbols()?;
         self.preambles()?;
         self.cells()?;
@@ -162,9 +164,7 @@ impl Trials<'_> {
             for line in 0..4 {
                 for end in ["", " ", "\t ", " z"] {
                     let mut mask = mask.clone();
-                    let [x, y] = mask.hotspot.as_mut().unwrap();
-                    let replaced = [&mut mask.width, &mut mask.height, x, y].into_iter().nth(line);
-                    *replaced.unwrap() = [token, end.as_bytes()].concat();
+                    *mask.token(line) = [token, end.as_bytes()].concat();
                     let text = mask.text(&mut self.random);
                     self.main_calls(&text)?;
                     // The text ends with the token.
@@ -175,6 +175,37 @@ impl Trials<'_> {
             }
         }
         Ok(())
+    }
+
+    /// Tokens with each fault in all four lines: both calls must give the number that the token calls for.
+    fn faults_of_integers(&mut self) -> Tried {
+        let mut mask = Mask::new("d", 9, 1, vec![1, 0]);
+        mask.layout = Layout::Compact;
+        for token in tokens() {
+            for line in 0..integers::LINES {
+                let mut mask = mask.clone();
+                mask.token(line).clone_from(&token);
+                let text = mask.text(&mut self.random);
+                let wanted = number_of_header(&token, line);
+                self.header(&text)?;
+                self.wanted("read_header", &text, wanted)?;
+                self.image(&text, 9)?;
+                if wanted != 0 {
+                    self.wanted("read_image", &text, wanted)?;
+                }
+            }
+        }
+        Ok(())
+    }
+
+    /// Holds the number that ours gave last to the one that a text was made for.
+    fn wanted(&self, call: &str, text: &[u8], wanted: u32) -> Tried {
+        let number = self.comparison.last_number;
+        if number == wanted {
+            return Ok(());
+        }
+        let shown = text.escape_ascii();
+        Err(format!("{call} on \"{shown}\":\nours gives {number}, not {wanted}\n"))
     }
 
     /// Symbols around the limit of the lent name buffer, with and without their ending.
@@ -372,22 +403,21 @@ impl Trials<'_> {
         Ok(())
     }
 
-    /// A long mask, one in a layout of real files, or any text; the first two damaged at times.
+    /// A long mask or one in a layout of real files, damaged at times; one with a token mistyped; or any text.
     fn drawn(&mut self) -> Tried {
         let random = &mut self.random;
-        let mask = match random.below(64) {
-            0 => Some(Mask::long(random)),
-            1..=15 => Some(Mask::real(random)),
-            _ => None,
+        let text = match random.below(64) {
+            kind @ 0..=15 => {
+                let mask = if kind == 0 { Mask::long(random) } else { Mask::real(random) };
+                let mut text = mask.text(random);
+                if random.once_in(3) {
+                    texts::damage(random, &mut text);
+                }
+                text
+            }
+            16..=19 => texts::mistyped(random),
+            _ => drawn_text(random),
         };
-        let Some(mask) = mask else {
-            let text = drawn_text(random);
-            return self.every_call(&text);
-        };
-        let mut text = mask.text(random);
-        if random.once_in(3) {
-            texts::damage(random, &mut text);
-        }
         self.every_call(&text)
     }
 
@@ -576,6 +606,48 @@ pub fn lengths(header: &Header) -> [usize; 9] {
     some.map(|length| length.min(LONGEST_BUFFER))
 }
 
+/// Tokens with each fault and with none: short ones, those at the limits, and long ones with a byte changed.
+fn tokens() -> Vec<Vec<u8>> {
+    let mut all = words(b"019-+z\r\0", 3);
+    for token in TOKENS {
+        all.push(token.as_bytes().to_vec());
+        all.push([token.as_bytes(), b"z"].concat());
+    }
+    for token in ["014z", "-014z", "4294967296z", "9999999999z", "-999999999z", "-2147483650"] {
+        all.push(token.as_bytes().to_vec());
+    }
+    for first in ["", "-", "0", "-0", "--", "+", "00"] {
+        // Ten of a digit fit, are too large, and are too large for a hotspot alone.
+        for digit in *b"193" {
+            for length in first.len() + 1..=integers::LONGEST + 1 {
+                let mut token = first.as_bytes().to_vec();
+                token.resize(length, digit);
+                for at in 0..length {
+                    for byte in *b"z-+\r\0/:0\xff" {
+                        let mut wrong = token.clone();
+                        wrong[at] = byte;
+                        all.push(wrong);
+                    }
+                }
+                all.push(token);
+            }
+        }
+    }
+    all
+}
+
+/// What a header gets that is sound but for the token in the line with this index.
+fn number_of_header(token: &[u8], line: usize) -> u32 {
+    if token.len() > integers::LONGEST {
+        return 1 + line as u32;
+    }
+    integers::number(token, line).unwrap_or(match (token, line) {
+        (b"0", 0) => 21,
+        (b"0", 1) => 22,
+        _ => 0,
+    })
+}
+
 /// All words of at most so many of the letters.
 pub fn words(letters: &[u8], longest: usize) -> Vec<Vec<u8>> {
     let mut all = vec![Vec::new()];
@@ -697,6 +769,49 @@ mod tests {
             let mut trials = trials(&interface);
             assert!((0..TEXTS).any(|_| trials.drawn().is_err()), "{fault:?} not drawn");
         }
+    }
+
+    #[test]
+    fn faults_in_integers_are_caught_and_named() {
+        for (fault, said) in Fault::INTEGERS {
+            let difference = difference(fault);
+            assert!(difference.contains(said), "{fault:?}: no {said:?} in\n{difference}");
+        }
+    }
+
+    /// By their family, and drawn.
+    #[test]
+    fn integers_with_each_fault_are_tried() {
+        for (fault, _) in Fault::INTEGERS {
+            let interface = mock::with_fault(fault);
+            assert!(trials(&interface).faults_of_integers().is_err(), "{fault:?} passed unseen");
+            let mut trials = trials(&interface);
+            assert!((0..TEXTS).any(|_| trials.drawn().is_err()), "{fault:?} not drawn");
+        }
+    }
+
+    /// All that a sound text with another token in one line can get, by that family alone.
+    #[test]
+    fn family_of_integers_reaches_all_their_numbers() {
+        let interface = mock::without_fault();
+        let mut trials = trials(&interface);
+        trials.faults_of_integers().unwrap_or_else(|e| panic!("{e}"));
+        let mut unreached = trials.comparison.tally.unreached();
+        unreached.retain(|number| !number.starts_with("next_byte"));
+        // The array line, and bytes after the semicolon.
+        assert_eq!(unreached, ["read_header 5", "read_image 5", "read_image 8"]);
+    }
+
+    /// The family does not lean on the comparison's own look at the token.
+    #[test]
+    fn number_is_held_to_the_one_wanted() {
+        let interface = mock::without_fault();
+        let mut trials = trials(&interface);
+        let text = b"#define d_width 014z\n";
+        trials.header(text.as_slice()).unwrap_or_else(|e| panic!("{e}"));
+        assert_eq!(trials.wanted("read_header", text, 112), Ok(()));
+        let said = "read_header on \"#define d_width 014z\\n\":\nours gives 112, not 113\n";
+        assert_eq!(trials.wanted("read_header", text, 113), Err(said.into()));
     }
 
     #[test]

@@ -19,7 +19,7 @@ use Rattle.grammar.specs.Devices.{headOf, made}
 use Rattle.grammar.specs.Headers.{header-exactly}
 use Rattle.grammar.specs.Exact.{start-rest}
 use Rattle.claims.specs.Terms.{Begun, HeaderRefusal}
-use Rattle.claims.specs.Numbers.{placed-number, unplaced-number, header-numbered, whole-numbered}
+use Rattle.claims.specs.Numbers.{placed-number, unplaced-number, thirty-one, header-number, header-bounds, header-numbered, whole-numbered}
 
 -- the header is read exactly where one stands at the text's start
 pub stood : (lim : ℕ) (t : List ℕ) (m : Mask) → Begun (Header lim m) t → (e : TextLocation) × (header lim t start ≡ ok (headOf m) e)
@@ -44,7 +44,7 @@ module _ (t name pixels : List ℕ) where
       go : (r : Result (List ℕ)) → whole (h .width) (h .height) (length pixels) t k ≡ r → HeaderRefusal (told (then r (λ l e. ok (h, l) e))) → ⊥
       go (ok l e) q x = x
       go (stop c e) q x = omega (arith, placed-number (whole-numbered (h .width) (h .height) (length pixels)) t k c e q)
-      go (bad c e) q x = omega (arith, unplaced-number (whole-numbered (h .width) (h .height) (length pixels)) t k c e q)
+      go (bad c e) q x = header-bounds c x .0 (thirty-one (whole-numbered (h .width) (h .height) (length pixels)) t k c e q)
 
   abbrev Refused : Result Head → Type 0
   Refused r = HeaderRefusal (told (then r (λ h k. then (whole (h .width) (h .height) (length pixels) t k) (λ l e. ok (h, l) e))))
@@ -56,7 +56,7 @@ module _ (t name pixels : List ℕ) where
       go : (r : Result Head) → header (length name) t start ≡ r → Refused r ↔ ((m : Mask) → Begun (Header (length name) m) t → ⊥)
       go (ok h k) q = ((λ x. absurd (later h k x)), λ g. absurd (g (made h []) (stands (length name) t h k q)))
       go (stop c e) q = ((λ x m b. (let (i, p) = stood (length name) t m b in let z : _≡_ {A = ℕ} 0 1 = cc in omega arith)), λ g. placed-number (header-numbered (length name)) t start c e q)
-      go (bad c e) q = ((λ x m b. (let (i, p) = stood (length name) t m b in let z : _≡_ {A = ℕ} 0 1 = cc in omega arith)), λ g. unplaced-number (header-numbered (length name)) t start c e q)
+      go (bad c e) q = ((λ x m b. (let (i, p) = stood (length name) t m b in let z : _≡_ {A = ℕ} 0 1 = cc in omega arith)), λ g. header-number c (unplaced-number (header-numbered (length name)) t start c e q))
 
   pub untouched : HeaderRefusal (reading t name pixels .answer) → (reading t name pixels .name ≡ []) × (reading t name pixels .pixels ≡ pixels)
   unfolding reading picture _>>=_ give

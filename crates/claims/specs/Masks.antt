@@ -1,4 +1,4 @@
--- Document 01's masks, and two with a hotspot, as rows of one table: a text, the cells lent, what the program prints, the symbol bytes stored, the cells later.
+-- Document 01's masks, and more with a hotspot or another integer, as rows of one table: a text, the cells lent, what the program prints, the symbol bytes stored, the cells later.
 use Prim.Native.Nat.{ℕ}
 use Prim.Native.String.{String}
 use mathlib.Core.List.{List, [], _∷_, _++_}
@@ -51,12 +51,17 @@ table =
     ∷ header (take 17 M) "refused 1 byte=17,line=1:col=17,start=0\n" "d_width"
     ∷ header [] "refused 1 byte=0,line=1:col=0,start=0\n" ""
     ∷ header (ascii "#define d_width 9\n\n") "refused 2 byte=19,line=3:col=0,start=19\n" "d_width"
-    ∷ header (token "014") "refused 11\n" "d_width"
-    ∷ header (token "9\r") "refused 11\n" "d_width"
-    ∷ header (token "") "refused 11\n" "d_width"
+    ∷ header (token "014") "refused 112\n" "d_width"
+    ∷ header (token "9\r") "refused 113\n" "d_width"
+    ∷ header (token "") "refused 111\n" "d_width"
+    ∷ header (token "014z") "refused 112\n" "d_width"
+    ∷ header (token "9999999999z") "refused 113\n" "d_width"
+    ∷ header (token "9999999999") "refused 114\n" "d_width"
     ∷ header (token "0") "refused 21\n" "d_width"
     ∷ header (token "0 z") "refused 1 byte=19,line=1:col=19,start=0\n" "d_width"
     ∷ header (token "123456789012") "refused 1 byte=27,line=1:col=27,start=0\n" "d_width"
+    ∷ header (spotted "-" "4") "refused 131\n" "d_width"
+    ∷ header (spotted "3" "-04") "refused 142\n" "d_width"
     ∷ picture (spotted "3" "4") "width 9\nheight 1\nhotspot 3 4\nink 1\n" (0 ∷ replicate 8 255)
     ∷ picture (spotted "-5" "-2147483648") "width 9\nheight 1\nhotspot -5 -2147483648\nink 1\n" (0 ∷ replicate 8 255)
     ∷ []

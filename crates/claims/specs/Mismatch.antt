@@ -26,7 +26,7 @@ use Rattle.grammar.specs.Devices.{headOf, made, body, front, text}
 use Rattle.grammar.specs.Headers.{header-exactly}
 use Rattle.grammar.specs.Exact.{start-rest, data-fits, exactly}
 use Rattle.claims.specs.Terms.{W, rows, TooMany, TooFew, Mismatched}
-use Rattle.claims.specs.Numbers.{unplaced-number, header-numbered, items-numbered, item-numbered, trailer-numbered}
+use Rattle.claims.specs.Numbers.{no-number, untold, header-numbered, items-numbered, item-numbered, trailer-numbered}
 use Rattle.claims.specs.Parts.{Parts, done, parts, tailed}
 use Rattle.claims.specs.Accepts.{whole-fitted}
 
@@ -84,13 +84,13 @@ bind-bad {A} {B} {C} p f t i c e q g k = go (p t i) refl q
 -- ---- data and trailer tell a place with every refusal
 
 no-items : (k : ℕ) (f : Bool) (t : List ℕ) (i e : TextLocation) → items k f t i ≡ bad 31 e → ⊥
-no-items k f t i e q = let (x, y) = unplaced-number (items-numbered {lo = 6} {hi = 6} {x = 1} {y = 0} k f refl) t i 31 e q in omega arith
+no-items k f t i e q = untold (items-numbered {lo = 6} {hi = 6} {bare = no-number} k f refl) t i 31 e refl q
 
 no-item : (f : Bool) (t : List ℕ) (i e : TextLocation) → item f t i ≡ bad 31 e → ⊥
-no-item f t i e q = let (x, y) = unplaced-number (item-numbered {lo = 6} {hi = 6} {x = 1} {y = 0} f refl) t i 31 e q in omega arith
+no-item f t i e q = untold (item-numbered {lo = 6} {hi = 6} {bare = no-number} f refl) t i 31 e refl q
 
 no-trailer : (t : List ℕ) (i e : TextLocation) → trailer t i ≡ bad 31 e → ⊥
-no-trailer t i e q = let (x, y) = unplaced-number (trailer-numbered {lo = 7} {hi = 8} {x = 1} {y = 0} refl refl) t i 31 e q in omega arith
+no-trailer t i e q = untold (trailer-numbered {lo = 7} {hi = 8} {bare = no-number} refl refl) t i 31 e refl q
 
 module _ (lim : ℕ) (t pixels : List ℕ) where
   -- ---- from the text to 31
@@ -175,7 +175,7 @@ exactly-31 t name pixels = (go (picture (length name) (length pixels) t start) r
     go (ok x e) q s = let z : _≡_ {A = ℕ} 0 1 = cc in absurd (omega arith)
     go (stop c e) q s = let z : _≡_ {A = ℕ} 0 1 = cc in absurd (omega arith)
     go (bad c e) q s = let z : c ≡ 31 = cc in
-        bind-bad (header (length name)) (λ h. whole (h .width) (h .height) (length pixels) >>= λ l. give (h, l)) t start 31 e (q ∙ ap (λ (c : ℕ). bad c e) z) (λ u. absurd (omega (arith, unplaced-number (header-numbered (length name)) t start 31 e u))) (λ h k u v.
+        bind-bad (header (length name)) (λ h. whole (h .width) (h .height) (length pixels) >>= λ l. give (h, l)) t start 31 e (q ∙ ap (λ (c : ℕ). bad c e) z) (λ u. absurd (untold (header-numbered (length name)) t start 31 e refl u)) (λ h k u v.
         bind-bad (whole (h .width) (h .height) (length pixels)) (λ l. give (h, l)) t k 31 e v (λ w. apart-31 (length name) t pixels h k e u w) (λ l i x y. (let o : _≡_ {A = ℕ} 0 1 = cc in absurd (omega arith))))
 
     back : Mismatched (length name) t pixels → outcome (λ (p : Head × List ℕ). p .0) (picture (length name) (length pixels) t start) ≡ unplaced 31

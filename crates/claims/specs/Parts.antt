@@ -16,7 +16,7 @@ use Rattle.grammar.specs.Bind.{bind-case, bind-ok, past-byte}
 use Rattle.grammar.specs.Fits.{Any}
 use Rattle.grammar.specs.Devices.{headOf, made, body, front, text}
 use Rattle.grammar.specs.Exact.{start-rest, front-fits, exactly}
-use Rattle.claims.specs.Numbers.{Numbered, wider, bind-numbered, give-numbered, header-numbered, items-numbered, closing-numbered}
+use Rattle.claims.specs.Numbers.{in-header, Numbered, wider, bind-numbered, give-numbered, header-numbered, items-numbered, closing-numbered}
 use Rattle.claims.specs.Semicolon.{Closed, closed}
 
 -- ---- the laws
@@ -29,7 +29,7 @@ body-firm : (h : Head) → Firm (body h)
 unfolding body
 body-firm h = search (bind-firm, bind-local, items-local, items-firm, closing-local, closing-firm, give-local, give-firm) depth 8
 
-body-numbered : (h : Head) → Numbered 1 7 11 22 (body h)
+body-numbered : (h : Head) → Numbered 1 7 in-header (body h)
 unfolding body
 body-numbered h = bind-numbered (items-numbered _ true refl) (λ l. bind-numbered (closing-numbered refl) (λ a. give-numbered l))
 
@@ -42,7 +42,7 @@ module _ (lim : ℕ) where
   unfolding front
   front-firm = search (bind-firm, bind-local, header-local, body-local, give-local, header-firm, body-firm, give-firm)
 
-  pub front-numbered : Numbered 1 7 11 22 (front lim)
+  pub front-numbered : Numbered 1 7 in-header (front lim)
   unfolding front
   front-numbered = bind-numbered (wider (header-numbered lim) 1 7 (omega arith) (omega arith)) (λ h. bind-numbered (body-numbered h) (λ l. give-numbered (made h l)))
 

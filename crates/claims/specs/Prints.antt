@@ -27,7 +27,7 @@ use Rattle.grammar.specs.Lang.{_·_}
 use Rattle.grammar.specs.Grammar.{Mask, Side, Define, Hotspot, Header, Format}
 use Rattle.grammar.specs.Devices.{made}
 use Rattle.claims.specs.Terms.{Lines}
-use Rattle.claims.specs.Numbers.{header-numbered, whole-numbered, placed-number, unplaced-number}
+use Rattle.claims.specs.Numbers.{header-numbered, whole-numbered, placed-number, unplaced-number, thirty-one, header-number, header-bounds}
 use Rattle.claims.specs.Accepts.{accepts-exactly}
 use Rattle.claims.specs.Headless.{stands}
 use Rattle.claims.specs.Written.{Hots, ranged, Printable, lines}
@@ -69,12 +69,12 @@ module _ (text name pixels : List ℕ) (short : length text ≤ 65536) where
       after : (h : Head) (e : TextLocation) → header (length name) text start ≡ ok h e → (r : Result (List ℕ)) → whole (h .width) (h .height) (length pixels) text e ≡ r → Printable (told (then r (λ l e. ok (h, l) e)))
       after h e q (ok l m) z = let (u, v, d, k) = stands (length name) text h e q in let (a, b, c) = ranges (length name) (made h []) u k in (omega arith, omega arith, c)
       after h e q (stop c m) z = stopped-small c m (omega (arith, placed-number (whole-numbered (h .width) (h .height) (length pixels)) text e c m z)) (rw (q, z))
-      after h e q (bad c m) z = omega (arith, unplaced-number (whole-numbered (h .width) (h .height) (length pixels)) text e c m z)
+      after h e q (bad c m) z = omega (arith, thirty-one (whole-numbered (h .width) (h .height) (length pixels)) text e c m z)
 
       go : (r : Result Head) → header (length name) text start ≡ r → Printable (told (then r (λ h e. then (whole (h .width) (h .height) (length pixels) text e) (λ l e. ok (h, l) e))))
       go (ok h e) q = after h e q (whole (h .width) (h .height) (length pixels) text e) refl
       go (stop c e) q = stopped-small c e (omega (arith, placed-number (header-numbered (length name)) text start c e q)) (rw q)
-      go (bad c e) q = omega (arith, unplaced-number (header-numbered (length name)) text start c e q)
+      go (bad c e) q = omega (arith, header-bounds c (header-number c (unplaced-number (header-numbered (length name)) text start c e q)) .1)
 
 -- ---- of the ink
 

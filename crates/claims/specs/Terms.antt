@@ -71,11 +71,17 @@ TooFew limit m t pixels = (rows m pixels < m .height) × (length (m .bytes) ≡ 
 abbrev pub Mismatched : ℕ → List ℕ → List ℕ → Type 0
 Mismatched limit t pixels = (m : Mask) × (TooMany limit m t pixels ⊎ TooFew limit m t pixels)
 
--- an answer that refuses the header: 1 to 5 with a place, 11 to 22 without
+-- the header's numbers without a place: a side that is zero; and four for each line's integer
+abbrev pub HeaderNumber : ℕ → Type 0
+HeaderNumber c =
+    ((21 ≤ c) × (c ≤ 22))
+    ⊎ (((111 ≤ c) × (c ≤ 114)) ⊎ (((121 ≤ c) × (c ≤ 124)) ⊎ (((131 ≤ c) × (c ≤ 134)) ⊎ ((141 ≤ c) × (c ≤ 144)))))
+
+-- an answer that refuses the header: 1 to 5 with a place, those without
 abbrev pub HeaderRefusal : {A : Type 0} → Outcome A → Type 0
 HeaderRefusal (accepted h) = ⊥
 HeaderRefusal (refused c e) = (1 ≤ c) × (c ≤ 5)
-HeaderRefusal (unplaced c) = (11 ≤ c) × (c ≤ 22)
+HeaderRefusal (unplaced c) = HeaderNumber c
 
 -- the width's symbol, and what precedes it in a text
 abbrev pub symbolOf : Mask → List ℕ

@@ -60,8 +60,8 @@ module _ (name : List ℕ) (width height : ℕ) where
   hot-lines : (x0 y0 : ℤ) (a : List ℕ × ℕ) (h : ℕ) → All solid (a .0) → Fits (hotspot (a .0) (λ x y. ending (a .0) (a .1) h (some (x, y)))) (head (some (x0, y0))) (Sides a h) (hot-x (a .0) x0 · hot-y (a .0) y0 · Array (a .0)) Any
   unfolding hot-x hot-y
   hot-lines x0 y0 a h s =
-      fit-drop (fit-bind x0 (λ x. Unit {0}) (hot-x (a .0)) (λ x. hot-y (a .0) y0 · Array (a .0)) (λ x. Unit {0}) (λ x. hot-fits 3 13 (a .0) (ascii "x_hot") x s) (λ x w k. tt) begins-any (λ x u.
-      fit-drop (fit-bind y0 (λ y. Unit {0}) (hot-y (a .0)) (λ y. Array (a .0)) (λ y. Unit {0}) (λ y. hot-fits 4 14 (a .0) (ascii "y_hot") y s) (λ y w k. tt) begins-any (λ y u.
+      fit-drop (fit-bind x0 (λ x. Unit {0}) (hot-x (a .0)) (λ x. hot-y (a .0) y0 · Array (a .0)) (λ x. Unit {0}) (λ x. hot-fits 3 130 (a .0) (ascii "x_hot") x s) (λ x w k. tt) begins-any (λ x u.
+      fit-drop (fit-bind y0 (λ y. Unit {0}) (hot-y (a .0)) (λ y. Array (a .0)) (λ y. Unit {0}) (λ y. hot-fits 4 140 (a .0) (ascii "y_hot") y s) (λ y w k. tt) begins-any (λ y u.
       ending-fits a h (some (x, y)) (head (some (x0, y0))) s (there x y, back x y)))))
     where
       there : (x y : ℤ) → (y ≡ y0) × ((x ≡ x0) × Sides a h) → record { name = a .0; width = a .1; height = h; hot = some (x, y) } ≡ head (some (x0, y0))

@@ -160,8 +160,8 @@ coordinate-fits d z w = fit-needed _ (integer w) ((λ x. coordinate→integer w 
 
 -- ---- the lines of the header
 
-pub height-fits : (name : List ℕ) (n : ℕ) → All solid name → Fits (line 2 name (ascii "_height") (side 12 22)) n (Unit {0}) (Define (Word (name ++ ascii "_height")) (Side n)) Any
-height-fits name n s = line-fits 2 name (ascii "height") (side 12 22) Side n s (side-token n) (side-fits 12 22 n)
+pub height-fits : (name : List ℕ) (n : ℕ) → All solid name → Fits (line 2 name (ascii "_height") (side 120 22)) n (Unit {0}) (Define (Word (name ++ ascii "_height")) (Side n)) Any
+height-fits name n s = line-fits 2 name (ascii "height") (side 120 22) Side n s (side-token n) (side-fits 120 22 n)
 
 pub hot-fits : (c d : ℕ) (name z : List ℕ) (v : ℤ) → All solid name → Fits (line c name (95 ∷ z) (signed d)) v (Unit {0}) (Define (Word (name ++ (95 ∷ z))) (Coordinate v)) Any
 hot-fits c d name z v s = line-fits c name z (signed d) Coordinate v s (coordinate-token v) (coordinate-fits d v)

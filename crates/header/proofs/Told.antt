@@ -1,5 +1,5 @@
 -- What an answer that is matched on tells of a reading that goes on.
-use Prim.Native.Nat.{ℕ}
+use Prim.Native.Nat.{ℕ, _+_}
 use borrow.Author.Tests.{eq-eqb, ne-eqb}
 use mathlib.Core.Path.{_≡_, refl}
 use mathlib.Core.List.{List}
@@ -11,20 +11,21 @@ use Rattle.text.specs.Reader.{Reader, _>>=_}
 use Rattle.text.specs.Outcome.{Outcome, refused, unplaced, Ended, shown}
 use Rattle.text.specs.Leaf.{need, fork}
 use Rattle.text.proofs.Reading.{fork-first, fork-second, fork-neither, fork-end}
+use Rattle.integer.specs.declared.Fault.{Fault}
 use Rattle.integer.specs.declared.Unsigned.{Unsigned}
 use Rattle.integer.specs.declared.Unsigned.the-variants.{Value, Bad}
-use Rattle.integer.specs.Decimal.{parseU32, unsignedOf}
+use Rattle.integer.specs.Decimal.{parseU32, unsignedOf, unsignedFault, faultNumber}
 use Rattle.lines.specs.Lines.{positive}
 use Rattle.lines.proofs.Told.{line·laws}
 use Rattle.hotspot.proofs.Told.{show-spot, show-no-spot}
 
 -- an integer of a token; a side that must not be zero
 module _ {B : Type 0} (c : ℕ) (w : List ℕ) (f : ℕ → Reader B) (t : List ℕ) (i : TextLocation) {m : Unsigned} (e : m ≡ parseU32 w) {z : Outcome (Ended B)} where
-  pub show-value : {n : ℕ} → m ≡ Value n → z ≡ shown (f n t i) → z ≡ shown ((need c (unsignedOf (parseU32 w)) >>= f) t i)
+  pub show-value : {n : ℕ} → m ≡ Value n → z ≡ shown (f n t i) → z ≡ shown ((need (c + unsignedFault (parseU32 w)) (unsignedOf (parseU32 w)) >>= f) t i)
   unfolding need _>>=_
   show-value h k = rw (← e, h) k
 
-  pub show-bad : m ≡ Bad → z ≡ unplaced c → z ≡ shown ((need c (unsignedOf (parseU32 w)) >>= f) t i)
+  pub show-bad : {k : Fault} → m ≡ Bad k → z ≡ unplaced (c + faultNumber k) → z ≡ shown ((need (c + unsignedFault (parseU32 w)) (unsignedOf (parseU32 w)) >>= f) t i)
   unfolding need _>>=_
   show-bad h k = rw (← e, h) k
 

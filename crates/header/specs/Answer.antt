@@ -44,10 +44,10 @@ unfoldable pub restOf : List ℕ → ℕ → ℕ → Reader Head
 restOf name w h = fork 5 35 (spot name >>= λ s. endingOf name w h (some s)) 115 (endingOf name w h none)
 
 unfoldable pub heightOf : List ℕ → ℕ → Reader Head
-heightOf name w = defineLine 2 name (ascii "_height") >>= λ d. unsigned 12 d >>= λ v. need 22 (positive v) >>= λ h. restOf name w h
+heightOf name w = defineLine 2 name (ascii "_height") >>= λ d. unsigned 120 d >>= λ v. need 22 (positive v) >>= λ h. restOf name w h
 
 unfoldable pub sidesOf : List ℕ → Reader Head
-sidesOf name = value 1 give >>= λ d. unsigned 11 d >>= λ v. need 21 (positive v) >>= λ w. heightOf name w
+sidesOf name = value 1 give >>= λ d. unsigned 110 d >>= λ v. need 21 (positive v) >>= λ w. heightOf name w
 
 -- the length of the name handed back: none of a refused header
 abbrev pub nameLength : Result Head → ℕ

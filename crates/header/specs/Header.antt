@@ -23,7 +23,7 @@ ending name w h o = arrayLine 5 name >> give (record { name = name; width = w; h
 
 -- the two lines of a hotspot
 abbrev pub hotspot : {A : Type 0} → List ℕ → (ℤ → ℤ → Reader A) → Reader A
-hotspot name k = line 3 name (ascii "_x_hot") (signed 13) >>= λ x. line 4 name (ascii "_y_hot") (signed 14) >>= λ y. k x y
+hotspot name k = line 3 name (ascii "_x_hot") (signed 130) >>= λ x. line 4 name (ascii "_y_hot") (signed 140) >>= λ y. k x y
 
 -- after the height line: `#` opens the hotspot, `s` the array line
 unfoldable pub rest : List ℕ → ℕ → ℕ → Reader Head
@@ -31,7 +31,7 @@ rest name w h = fork 5 35 (hotspot name (λ x y. ending name w h (some (x, y))))
 
 -- the header up to and including the opening brace
 unfoldable pub header : ℕ → Reader Head
-header limit = leading 1 true >> widthLine limit >>= λ nw. line 2 (nw .0) (ascii "_height") (side 12 22) >>= λ h. rest (nw .0) (nw .1) h
+header limit = leading 1 true >> widthLine limit >>= λ nw. line 2 (nw .0) (ascii "_height") (side 120 22) >>= λ h. rest (nw .0) (nw .1) h
 
 -- ---- laws
 

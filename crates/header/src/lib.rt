@@ -102,7 +102,9 @@ fn read_height(text: &[u8], place: TextLocation, name: &[u8], width: u32) -> Hea
                 }
                 read_rest(text, p, name, width, height)
             }
-            Unsigned::Bad => HeaderRead::Refused(XbmDecodeError::DecodeInteger(XbmPart::Height)),
+            Unsigned::Bad(f) => {
+                HeaderRead::Refused(XbmDecodeError::DecodeInteger(XbmPart::Height, f))
+            }
         },
         Token::Refused(q, at) => HeaderRead::Refused(XbmDecodeError::Parse(q, at)),
     }
@@ -121,7 +123,9 @@ fn read_sides(text: &[u8], place: TextLocation, name: &[u8]) -> HeaderRead
                 }
                 read_height(text, p, name, width)
             }
-            Unsigned::Bad => HeaderRead::Refused(XbmDecodeError::DecodeInteger(XbmPart::Width)),
+            Unsigned::Bad(f) => {
+                HeaderRead::Refused(XbmDecodeError::DecodeInteger(XbmPart::Width, f))
+            }
         },
         Token::Refused(q, at) => HeaderRead::Refused(XbmDecodeError::Parse(q, at)),
     }

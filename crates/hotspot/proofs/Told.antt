@@ -1,5 +1,5 @@
 -- What an answer of the hotspot's readers, or of an integer's, tells of a reading that goes on.
-use Prim.Native.Nat.{ℕ}
+use Prim.Native.Nat.{ℕ, _+_}
 use mathlib.Core.Path.{_≡_}
 use mathlib.Core.List.{List}
 use lib.IntN.{ℤ}
@@ -7,9 +7,10 @@ use Rattle.text.specs.declared.TextLocation.{TextLocation}
 use Rattle.text.specs.Reader.{Reader, _>>=_}
 use Rattle.text.specs.Outcome.{Outcome, accepted, unplaced, Ended, ending-at, shown}
 use Rattle.text.specs.Leaf.{need}
+use Rattle.integer.specs.declared.Fault.{Fault}
 use Rattle.integer.specs.declared.Signed.{Signed}
 use Rattle.integer.specs.declared.Signed.the-variants.{Number, Wrong}
-use Rattle.integer.specs.Decimal.{parseI32, signedOf}
+use Rattle.integer.specs.Decimal.{parseI32, signedOf, signedFault, faultNumber}
 use Rattle.error.specs.declared.XbmDecodeError.{XbmDecodeError}
 use Rattle.error.specs.Error.{toldError}
 use Rattle.error.proofs.Told.{show-accepted, show-error}
@@ -36,11 +37,11 @@ module _ {B : Type 0} (p : Reader (ℤ × ℤ)) (f : ℤ × ℤ → Reader B) (t
 
 -- an integer of a token
 module _ (c : ℕ) (w : List ℕ) (t : List ℕ) (i : TextLocation) {m : Signed} (e : m ≡ parseI32 w) {z : Outcome (Ended ℤ)} where
-  pub show-number : {n : ℤ} → m ≡ Number n → z ≡ accepted (ending-at n i) → z ≡ shown (need c (signedOf (parseI32 w)) t i)
+  pub show-number : {n : ℤ} → m ≡ Number n → z ≡ accepted (ending-at n i) → z ≡ shown (need (c + signedFault (parseI32 w)) (signedOf (parseI32 w)) t i)
   unfolding need
   show-number h k = rw (← e, h) k
 
-  pub show-wrong : m ≡ Wrong → z ≡ unplaced c → z ≡ shown (need c (signedOf (parseI32 w)) t i)
+  pub show-wrong : {f : Fault} → m ≡ Wrong f → z ≡ unplaced (c + faultNumber f) → z ≡ shown (need (c + signedFault (parseI32 w)) (signedOf (parseI32 w)) t i)
   unfolding need
   show-wrong h k = rw (← e, h) k
 

@@ -1,5 +1,5 @@
 -- The hotspot's lines as the code reads them, and what its answers tell.
-use Prim.Native.Nat.{ℕ, _+_}
+use Prim.Native.Nat.{ℕ, _+_, _*_}
 use mathlib.Core.List.{List}
 use lib.IntN.{ℤ}
 use Rattle.text.specs.Ascii.{ascii}
@@ -15,7 +15,7 @@ use Rattle.hotspot.specs.declared.HotspotRead.the-variants.{Spot, Refuse
 
 -- a define line whose symbol is known: the coordinate that its token is
 unfoldable pub coordinateLine : ℕ → List ℕ → List ℕ → Reader ℤ
-coordinateLine c name z = defineLine c name z >>= signed (c + 10)
+coordinateLine c name z = defineLine c name z >>= signed (100 + 10 * c)
 
 -- the hotspot's two lines
 unfoldable pub spot : List ℕ → Reader (ℤ × ℤ)

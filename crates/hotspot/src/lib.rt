@@ -37,7 +37,7 @@ fn read_coordinate_line(
     match read_define_line(text, place, name, suffix, &mut digits, part) {
         Token::Read(n, next) => match parse_i32(&digits[..n]) {
             Signed::Number(v) => CoordinateRead::Coordinate(v, next),
-            Signed::Wrong => CoordinateRead::Refused(XbmDecodeError::DecodeInteger(part)),
+            Signed::Wrong(f) => CoordinateRead::Refused(XbmDecodeError::DecodeInteger(part, f)),
         },
         Token::Refused(q, at) => CoordinateRead::Refused(XbmDecodeError::Parse(q, at)),
     }

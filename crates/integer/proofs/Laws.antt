@@ -1,7 +1,8 @@
 -- Laws of decimal values and of signed numbers made of them.
-use Prim.Native.Nat.{ℕ, suc, zero, _+_, _-_, _*_, _^_, _<_, _≤_}
+use Prim.Native.Nat.{ℕ, suc, zero, _+_, _-_, _*_, _^_, _<_, _≤_, min}
 use native.Mathlib.Numerals.{add-one}
 use native.Mathlib.Omega.{arith}
+use native.Mathlib.Decide.{decLt}
 use borrow.Author.Tests.{le-leb, lt-leb, eq-eqb, ne-eqb}
 use mathlib.Core.Path.{_≡_, refl, sym, ap, _∙_}
 use mathlib.Core.List.{List, [], _∷_}
@@ -14,7 +15,8 @@ use mir.Syntax.{Width, w32, w64}
 use mir.Val.{SFits, toZ, ofZ, hbits}
 use mir.ValLaws.{toZ-pos, toZ-ofZ}
 use Rattle.text.specs.Place.{pick}
-use Rattle.text.specs.PlaceLaws.{pick-same}
+use Rattle.integer.specs.declared.Fault.{Fault}
+use Rattle.integer.specs.declared.Fault.the-variants.{Empty, LeadingZero, NotDigit, OutOfRange}
 use Rattle.integer.specs.declared.Unsigned.{Unsigned}
 use Rattle.integer.specs.declared.Unsigned.the-variants.{Value, Bad}
 use Rattle.integer.specs.declared.Signed.{Signed}
@@ -26,26 +28,39 @@ value-grows : (x : ℕ) (w : List ℕ) → x ≤ valueFrom x w
 value-grows x [] = omega arith
 value-grows x (d ∷ t) = omega (arith, value-grows (x * 10 + (d - 48)) t)
 
-too-large : (x : ℕ) (w : List ℕ) → 4294967295 < x → Bad ≡ digitsFrom x w
+-- a value that is too large stays so, and what is told of it is a byte that is no digit, or else the range
+beyond : (x : ℕ) (w : List ℕ) → 4294967295 < x → digitsFrom x w ≡ pick (allDigits w) (Bad OutOfRange) (Bad NotDigit)
 unfolding digitsFrom
-too-large x w h = rw (lt-leb (valueFrom x w) 4294967295 (omega (arith, value-grows x w)), pick-same)
+beyond x w h = rw (lt-leb (valueFrom x w) 4294967295 (omega (arith, value-grows x w)))
 
--- i digits are read, and x is their value; z is what all of w gives
+-- so one of them stands for all
+capped-same : (y : ℕ) (w : List ℕ) → digitsFrom (min y 4294967296) w ≡ digitsFrom y w
+capped-same y w = go (decLt 4294967296 y)
+  where
+    go : Dec (4294967296 < y) → digitsFrom (min y 4294967296) w ≡ digitsFrom y w
+    go (yes h) = beyond (min y 4294967296) w (omega arith) ∙ sym (beyond y w (omega arith))
+    go (no h) = ap (λ (n : ℕ). digitsFrom n w) (omega arith)
+
+-- i digits are read, and x is their value, or stands for one that is too large; z is what all of w gives
 module _ (w : List ℕ) (i x : ℕ) (z : Unsigned) where
-  pub digits-again : i < length w → 48 ≤ getD w i 0 → getD w i 0 ≤ 57 → digitsFrom x (drop i w) ≡ z
+  one-more : i < length w → 48 ≤ getD w i 0 → getD w i 0 ≤ 57 → digitsFrom x (drop i w) ≡ z
       → digitsFrom (x * 10 + (getD w i 0 - 48)) (drop (i + 1) w) ≡ z
   unfolding digitsFrom isDigit
-  digits-again l a b v = rw add-one (rw (drop-cons w i 0 l, le-leb _ _ a, le-leb _ _ b) at v)
+  one-more l a b v = rw add-one (rw (drop-cons w i 0 l, le-leb _ _ a, le-leb _ _ b) at v)
 
-  pub digits-large : i < length w → 48 ≤ getD w i 0 → getD w i 0 ≤ 57 → 4294967295 < x * 10 + (getD w i 0 - 48)
-      → digitsFrom x (drop i w) ≡ z → Bad ≡ z
-  digits-large l a b h v = too-large _ (drop (i + 1) w) h ∙ digits-again l a b v
+  pub digits-again : {n : ℕ} → i < length w → 48 ≤ getD w i 0 → getD w i 0 ≤ 57 → n ≡ min (x * 10 + (getD w i 0 - 48)) 4294967296 → digitsFrom x (drop i w) ≡ z
+      → digitsFrom n (drop (i + 1) w) ≡ z
+  digits-again l a b e v = rw e (capped-same (x * 10 + (getD w i 0 - 48)) (drop (i + 1) w) ∙ one-more l a b v)
 
-  pub digits-low : i < length w → getD w i 0 < 48 → digitsFrom x (drop i w) ≡ z → Bad ≡ z
+  pub digits-large : length w ≤ i → 4294967295 < x → digitsFrom x (drop i w) ≡ z → Bad OutOfRange ≡ z
+  unfolding digitsFrom
+  digits-large l h v = rw (drop-of-length-le w l, lt-leb _ _ h) at v
+
+  pub digits-low : i < length w → getD w i 0 < 48 → digitsFrom x (drop i w) ≡ z → Bad NotDigit ≡ z
   unfolding digitsFrom isDigit
   digits-low l a v = rw (drop-cons w i 0 l, lt-leb _ _ a) at v
 
-  pub digits-high : i < length w → 48 ≤ getD w i 0 → 57 < getD w i 0 → digitsFrom x (drop i w) ≡ z → Bad ≡ z
+  pub digits-high : i < length w → 48 ≤ getD w i 0 → 57 < getD w i 0 → digitsFrom x (drop i w) ≡ z → Bad NotDigit ≡ z
   unfolding digitsFrom isDigit
   digits-high l a b v = rw (drop-cons w i 0 l, le-leb _ _ a, lt-leb _ _ b) at v
 
@@ -54,7 +69,7 @@ module _ (w : List ℕ) (i x : ℕ) (z : Unsigned) where
   digits-done l h v = rw (drop-of-length-le w l, le-leb _ _ h) at v
 
 -- the leading digit
-pub plain-none : (w : List ℕ) → length w ≡ 0 → Bad ≡ parseU32 w
+pub plain-none : (w : List ℕ) → length w ≡ 0 → Bad Empty ≡ parseU32 w
 plain-none [] h = refl
 plain-none (d ∷ t) h = absurd (omega arith)
 
@@ -63,7 +78,7 @@ plain-one [] h e = absurd (omega arith)
 plain-one (d ∷ []) h e = e
 plain-one (d ∷ (b ∷ t)) h e = absurd (omega arith)
 
-pub plain-zero : (w : List ℕ) → (length w ≡ 0 → ⊥) → (length w ≡ 1 → ⊥) → getD w 0 0 ≡ 48 → Bad ≡ parseU32 w
+pub plain-zero : (w : List ℕ) → (length w ≡ 0 → ⊥) → (length w ≡ 1 → ⊥) → getD w 0 0 ≡ 48 → Bad LeadingZero ≡ parseU32 w
 plain-zero [] h k e = absurd (h refl)
 plain-zero (d ∷ []) h k e = absurd (k refl)
 plain-zero (d ∷ (b ∷ t)) h k e = rw (eq-eqb d 48 e)
@@ -98,17 +113,17 @@ negative-to n h =
       le-leb _ _ h,
     )
 
-pub negative-large : (n : ℕ) → 2147483648 < n → Wrong ≡ negative (Value n)
+pub negative-large : (n : ℕ) → 2147483648 < n → Wrong OutOfRange ≡ negative (Value n)
 negative-large n h = rw (lt-leb _ _ h)
 
 pub positive-to : (n : ℕ) → n ≤ 2147483647 → Number (toZ w32 n) ≡ positive (Value n)
 positive-to n h = rw (toZ-pos w32 n (omega arith), le-leb _ _ h)
 
-pub positive-large : (n : ℕ) → 2147483647 < n → Wrong ≡ positive (Value n)
+pub positive-large : (n : ℕ) → 2147483647 < n → Wrong OutOfRange ≡ positive (Value n)
 positive-large n h = rw (lt-leb _ _ h)
 
 -- a sign or none
-pub signed-none : (w : List ℕ) → length w ≡ 0 → Wrong ≡ parseI32 w
+pub signed-none : (w : List ℕ) → length w ≡ 0 → Wrong Empty ≡ parseI32 w
 signed-none [] h = refl
 signed-none (d ∷ t) h = absurd (omega arith)
 
@@ -134,12 +149,12 @@ module _ (w : List ℕ) (some : length w ≡ 0 → ⊥) where
       → x ≡ negative (Value n) → x ≡ parseI32 w
   signed-minus h e m f = f ∙ ap negative (sym m ∙ e) ∙ minus h
 
-  pub signed-minus-bad : {r : Unsigned} → getD w 0 0 ≡ 45 → r ≡ parseU32 (take (length w - 1) (drop 1 w)) → r ≡ Bad → Wrong ≡ parseI32 w
+  pub signed-minus-bad : {r : Unsigned} {f : Fault} → getD w 0 0 ≡ 45 → r ≡ parseU32 (take (length w - 1) (drop 1 w)) → r ≡ Bad f → Wrong f ≡ parseI32 w
   signed-minus-bad h e m = ap negative (sym m ∙ e) ∙ minus h
 
   pub signed-plain : {r : Unsigned} {n : ℕ} {x : Signed} → (getD w 0 0 ≡ 45 → ⊥) → r ≡ parseU32 w → r ≡ Value n
       → x ≡ positive (Value n) → x ≡ parseI32 w
   signed-plain h e m f = f ∙ ap positive (sym m ∙ e) ∙ no-minus h
 
-  pub signed-plain-bad : {r : Unsigned} → (getD w 0 0 ≡ 45 → ⊥) → r ≡ parseU32 w → r ≡ Bad → Wrong ≡ parseI32 w
+  pub signed-plain-bad : {r : Unsigned} {f : Fault} → (getD w 0 0 ≡ 45 → ⊥) → r ≡ parseU32 w → r ≡ Bad f → Wrong f ≡ parseI32 w
   signed-plain-bad h e m = ap positive (sym m ∙ e) ∙ no-minus h

@@ -2,8 +2,6 @@
 use Prim.Native.Nat.{ℕ, _+_, _*_, _^_, _<_, _≤_}
 use native.Mathlib.Numerals.{add-one}
 use native.Mathlib.Omega.{arith}
-use mir.Syntax.{w32}
-use mir.Val.{Fits}
 use borrow.Author.Tests.{eq-eqb, ne-eqb}
 use mathlib.Core.Path.{_≡_, refl, sym, ap, _∙_}
 use mathlib.Core.Option.{some}
@@ -25,8 +23,8 @@ use Rattle.lexical.specs.declared.Passed.{Passed}
 use Rattle.lexical.specs.declared.Passed.the-variants.{To, Refused}
 use Rattle.lexical.specs.Lexical.{number, isBlank, isLoose, spaceOf, told, onto, when, is, anyByte, byte, while, skip, fixed}
 
--- a part's number, with 10 more
-number-small : (part : XbmPart) → number part ≤ 8
+-- a part's number
+pub number-small : (part : XbmPart) → number part ≤ 8
 number-small Width = omega arith
 number-small Height = omega arith
 number-small HotspotX = omega arith
@@ -35,9 +33,6 @@ number-small Array = omega arith
 number-small Data = omega arith
 number-small ArrayEnd = omega arith
 number-small Trailing = omega arith
-
-pub number-fits : (part : XbmPart) {n : ℕ} → n ≡ number part → Fits w32 (n + 10)
-number-fits part e = record { fits = omega (arith, number-small part) }
 
 -- an answer that is matched on, at the end of a reading and in the middle of one
 module _ {d : Result (Unit {0})} {m : Passed} (e : told m ≡ d) where

@@ -1,5 +1,5 @@
 -- The lines of a header: an integer's, one whose symbol is known, the width line, the line that opens the array; with their laws.
-use Prim.Native.Nat.{ℕ, _≤_}
+use Prim.Native.Nat.{ℕ, _+_, _≤_}
 use mathlib.Core.Path.{_≡_}
 use mathlib.Core.Option.{Option, none, some}
 use mathlib.Core.List.{List}
@@ -14,7 +14,7 @@ use Rattle.text.specs.Leaf.{give, want, need, fork}
 use Rattle.lexical.specs.Lexical.{isLoose, fixed, gap, lineEnd, locals, milds, firms, gap-local, gap-mild, lineEnd-local, lineEnd-mild, lineEnd-firm, lineEnd-grows, leading-local, leading-mild}
 use Rattle.lexical.specs.declared.Token.{Token}
 use Rattle.lexical.specs.Token.{token, token-local, token-mild, toldToken, sizeOf}
-use Rattle.integer.specs.Decimal.{parseU32, parseI32, unsignedOf, signedOf}
+use Rattle.integer.specs.Decimal.{parseU32, parseI32, unsignedOf, signedOf, unsignedFault, signedFault}
 use Rattle.symbol.specs.Symbol.{hashDefine, endWidth, before}
 
 -- an integer token has at most so many bytes
@@ -25,12 +25,12 @@ tokenLimit = 11
 abbrev pub value : {A : Type 0} → ℕ → (List ℕ → Reader A) → Reader A
 value c f = gap c >> token isLoose c tokenLimit >>= λ w. lineEnd c >> f w
 
--- an integer of 32 bits
+-- an integer of 32 bits: where the token is none, c and the number of its fault are told
 abbrev pub unsigned : ℕ → List ℕ → Reader ℕ
-unsigned c w = need c (unsignedOf (parseU32 w))
+unsigned c w = need (c + unsignedFault (parseU32 w)) (unsignedOf (parseU32 w))
 
 abbrev pub signed : ℕ → List ℕ → Reader ℤ
-signed c w = need c (signedOf (parseI32 w))
+signed c w = need (c + signedFault (parseI32 w)) (signedOf (parseI32 w))
 
 unfoldable pub positive : ℕ → Option ℕ
 positive n = pick (eqb n 0) none (some n)
@@ -55,7 +55,7 @@ defineLine c name z = symbol c name z >> value c give
 unfoldable pub widthLine : ℕ → Reader (List ℕ × ℕ)
 widthLine limit =
     fixed 1 hashDefine >> gap 1 >> token isLoose 1 limit >>= λ s. want 1 (before endWidth s) >>= λ name.
-    value 1 (λ w. unsigned 11 w >>= λ v. need 21 (positive v) >>= λ n. give (name, n))
+    value 1 (λ w. unsigned 110 w >>= λ v. need 21 (positive v) >>= λ n. give (name, n))
 
 -- `char`, or `unsigned`, gap, `char`
 unfoldable pub element : ℕ → Reader (Unit {0})

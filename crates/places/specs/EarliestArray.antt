@@ -25,7 +25,7 @@ use Rattle.grammar.specs.Lang.{Lang, Lit, _·_, All}
 use Rattle.grammar.specs.Grammar.{Mask, solid, Coordinate, Array}
 use Rattle.grammar.specs.Fits.{Any, At, Next}
 use Rattle.claims.specs.Terms.{Begun}
-use Rattle.claims.specs.Numbers.{give-numbered}
+use Rattle.claims.specs.Numbers.{no-number, give-numbered}
 use Rattle.refusals.specs.Terms.{Sides, Fourth, No}
 use Rattle.refusals.specs.Stages.{stop-first, read-at, begun}
 use Rattle.refusals.specs.HotspotRows.{Three, second, Both, second-fits, both-name, further, hot, plain, is-next, hashed, crossed-name, hash, maskOf}
@@ -41,7 +41,7 @@ unfolding rest fork Next
 plain-stop a t m p k q = go (restAt t m) refl k q
   where
     from-plain : plain a t m ≡ stop 5 p → arrayLine 5 (a .0 .0) t m ≡ stop 5 p
-    from-plain x = stop-first (arrayLine 5 (a .0 .0)) (λ b. give headed) 5 t m (λ b. give-numbered {lo = 1} {hi = 0} {x = 1} {y = 0} headed) (λ a b. omega arith) p .0 x
+    from-plain x = stop-first (arrayLine 5 (a .0 .0)) (λ b. give headed) 5 t m (λ b. give-numbered {lo = 1} {hi = 0} {bare = no-number} headed) (λ a b. omega arith) p .0 x
       where
         headed : Head
         headed = record { name = a .0 .0; width = a .0 .1; height = a .1; hot = none }
@@ -84,7 +84,7 @@ module _ (text name pixels : List ℕ) (p : TextLocation) where
 
   with-spot : (fourth limit >>= done) text start ≡ stop 5 p → Saved5
   with-spot q =
-      let (c, k, s) = at-stage (fourth limit) (λ c. arrayLine 5 (c .0 .0 .0 .0)) (λ c b. give (headOf5 c)) (Spotted limit) (λ c. All solid (c .0 .0 .0 .0)) (λ b. Unit {0}) (λ c b. Array (c .0 .0 .0 .0)) (fourth-fits limit) (spotted-name limit) (λ c s b. array-fits (c .0 .0 .0 .0) s) (λ c s. bind-any (array-open 5 (c .0 .0 .0 .0) s)) 5 (fourth-numbered limit) (λ a b. omega arith) (λ c b. give-numbered {lo = 1} {hi = 0} {x = 1} {y = 0} (headOf5 c)) (λ a b. omega arith) text p q in
+      let (c, k, s) = at-stage (fourth limit) (λ c. arrayLine 5 (c .0 .0 .0 .0)) (λ c b. give (headOf5 c)) (Spotted limit) (λ c. All solid (c .0 .0 .0 .0)) (λ b. Unit {0}) (λ c b. Array (c .0 .0 .0 .0)) (fourth-fits limit) (spotted-name limit) (λ c s b. array-fits (c .0 .0 .0 .0) s) (λ c s. bind-any (array-open 5 (c .0 .0 .0 .0) s)) 5 (fourth-numbered limit) (λ a b. omega arith) (λ c b. give-numbered {lo = 1} {hi = 0} {bare = no-number} (headOf5 c)) (λ a b. omega arith) text p q in
       inr (maskOf (c .0 .0), c .0 .1, c .1, k, bare (Spotted limit c) (Array (c .0 .0 .0 .0)) tt s)
 
   -- an array line can still stand there, after the sides or after the hotspot's lines

@@ -26,7 +26,7 @@ use Rattle.grammar.specs.Devices.{made}
 use Rattle.grammar.specs.Headers.{header-exactly}
 use Rattle.grammar.specs.Exact.{data-fits, closing-fits}
 use Rattle.claims.specs.Terms.{Begun, W, rows}
-use Rattle.claims.specs.Numbers.{Numbered, numbers, header-numbered, items-numbered, item-numbered, trailer-numbered, bind-numbered, give-numbered, placed-number}
+use Rattle.claims.specs.Numbers.{no-number, only-31, Numbered, numbers, header-numbered, items-numbered, item-numbered, trailer-numbered, bind-numbered, give-numbered, placed-number}
 use Rattle.claims.specs.Mismatch.{zero-test}
 use Rattle.refusals.specs.Stages.{stop-first, stop-second, at-both, at-parts, read-at, begun}
 use Rattle.places.specs.Savable.{Savable, Read}
@@ -119,13 +119,13 @@ module _ (text name pixels : List ℕ) (p : TextLocation) where
       pair : Head → List ℕ → Reader (Head × List ℕ)
       pair h l = give (h, l)
 
-      pair-numbered : (h : Head) (l : List ℕ) → Numbered 1 0 1 0 (pair h l)
+      pair-numbered : (h : Head) (l : List ℕ) → Numbered 1 0 no-number (pair h l)
       pair-numbered h l = give-numbered (h, l)
 
       pictured : Head → Reader (Head × List ℕ)
       pictured h = (items (many h) true >>= tests h) >>= pair h
 
-  tail-8 : Numbered 8 8 1 0 tail
+  tail-8 : Numbered 8 8 no-number tail
   unfolding tail
   tail-8 = search numbers
 
@@ -151,15 +151,15 @@ module _ (text name pixels : List ℕ) (p : TextLocation) where
   unfolding trailer
   from-closing h true d f a b l m q = (
     le-ltb (length pixels / h .width) (h .height) (omega (arith, eqb-true (length pixels / h .width) (h .height) a)),
-    stop-first closing (λ a. tail) 7 text m (λ a. tail-8) (λ a b. omega arith) p .0 (stop-first (closing >> tail) (λ a. give l) 7 text m (λ a. give-numbered {lo = 1} {hi = 0} {x = 1} {y = 0} l) (λ a b. omega arith) p .0 q),
+    stop-first closing (λ a. tail) 7 text m (λ a. tail-8) (λ a b. omega arith) p .0 (stop-first (closing >> tail) (λ a. give l) 7 text m (λ a. give-numbered {lo = 1} {hi = 0} {bare = no-number} l) (λ a b. omega arith) p .0 q),
   )
-  from-closing h false true f a b l m q = absurd (omega (arith, placed-number (bind-numbered (item-numbered {lo = 6} {hi = 6} {x = 31} {y = 31} f refl) (λ b. none-numbered)) text m 7 p q))
+  from-closing h false true f a b l m q = absurd (omega (arith, placed-number (bind-numbered (item-numbered {lo = 6} {hi = 6} {bare = only-31} f refl) (λ b. none-numbered)) text m 7 p q))
     where
-      none-numbered : Numbered 6 6 31 31 mismatch
+      none-numbered : Numbered 6 6 only-31 mismatch
       none-numbered = search numbers
   from-closing h false false f a b l m q = (b, stop-first closing (λ a. tail) 7 text m (λ a. tail-8) (λ a b. omega arith) p .0 (stop-first (closing >> tail) (λ a. mismatch) 7 text m (λ a. none-numbered) (λ a b. omega arith) p .0 q))
     where
-      none-numbered : Numbered 1 0 31 31 mismatch
+      none-numbered : Numbered 1 0 only-31 mismatch
       none-numbered = search numbers
 
   -- 7: the header and the data bytes stand there, and a closing can after them
@@ -167,7 +167,7 @@ module _ (text name pixels : List ℕ) (p : TextLocation) where
       → (m : Mask) × (m .height ≤ rows m pixels) × (length (m .bytes) ≡ W m * m .height) × Begun (Header lim m · Data (m .bytes)) text × Savable text p (Begun (Header lim m · Data (m .bytes) · Closing))
   earliest-7 q =
       let (h, m, u, x) = headed 7 (omega arith) q in
-      let (l, n, v, y) = stop-second (items (many h) true) (tests h) 7 text m (items-numbered {lo = 6} {hi = 6} {x = 1} {y = 0} (many h) true refl) (λ a b. omega arith) .0 (p, x) in
+      let (l, n, v, y) = stop-second (items (many h) true) (tests h) 7 text m (items-numbered {lo = 6} {hi = 6} {bare = no-number} (many h) true refl) (λ a b. omega arith) .0 (p, x) in
       let (w, z) = from-closing h (eqb (length pixels / h .width) (h .height)) (few h) (eqb (many h) 0) refl refl l n (sym (bind-ok (items (many h) true) (tests h) text m l n v) ∙ x) in
       let (k, r) = enough h w in
       let (j, d) = data-fits (many h) l .to text m n v in
@@ -197,13 +197,13 @@ module _ (text name pixels : List ℕ) (p : TextLocation) where
       let (h, m, u, x) = headed 6 (omega arith) q in
       (h, m, u, go h m (items (many h) true text m) refl x)
     where
-      none-numbered : Numbered 1 0 31 31 mismatch
+      none-numbered : Numbered 1 0 only-31 mismatch
       none-numbered = search numbers
 
-      trailer-7 : {A : Type 0} {f : Unit {0} → Reader A} → ((a : Unit {0}) → Numbered 7 8 31 31 (f a)) → Numbered 7 8 31 31 (trailer >>= f)
+      trailer-7 : {A : Type 0} {f : Unit {0} → Reader A} → ((a : Unit {0}) → Numbered 7 8 only-31 (f a)) → Numbered 7 8 only-31 (trailer >>= f)
       trailer-7 g = bind-numbered trailer-78 g
         where
-          trailer-78 : Numbered 7 8 31 31 trailer
+          trailer-78 : Numbered 7 8 only-31 trailer
           trailer-78 = search (numbers, trailer-numbered)
 
       by : (e d f : Bool) (l : List ℕ) (n : TextLocation) → ending e d f l text n ≡ stop 6 p → (d ≡ true) × (item f text n ≡ stop 6 p)
@@ -211,7 +211,7 @@ module _ (text name pixels : List ℕ) (p : TextLocation) where
       by false true f l n x = (refl, stop-first (item f) (λ b. mismatch) 6 text n (λ b. none-numbered) (λ a b. omega arith) p .0 x)
       by false false f l n x = absurd (omega (arith, placed-number (trailer-7 (λ a. rest-31)) text n 6 p x))
         where
-          rest-31 : Numbered 7 8 31 31 mismatch
+          rest-31 : Numbered 7 8 only-31 mismatch
           rest-31 = search numbers
 
       go : (h : Head) (m : TextLocation) (r : Result (List ℕ)) → items (many h) true text m ≡ r → then r (λ l e. tests h l text e) ≡ stop 6 p → (items (many h) true text m ≡ stop 6 p) ⊎ Next6 h m

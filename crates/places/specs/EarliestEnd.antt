@@ -27,7 +27,7 @@ use Rattle.grammar.specs.Devices.{made}
 use Rattle.grammar.specs.Headers.{header-exactly}
 use Rattle.grammar.specs.Exact.{data-fits, closing-fits, parts}
 use Rattle.claims.specs.Terms.{Begun, W, rows}
-use Rattle.claims.specs.Numbers.{Numbered, numbers, items-numbered, item-numbered, closing-numbered, bind-numbered, give-numbered, placed-number}
+use Rattle.claims.specs.Numbers.{no-number, only-31, Numbered, numbers, items-numbered, item-numbered, closing-numbered, bind-numbered, give-numbered, placed-number}
 use Rattle.refusals.specs.Stages.{stop-first, stop-second, at-both, begun}
 use Rattle.places.specs.Savable.{Savable}
 use Rattle.places.specs.Saving.{Good, good-on, Saved, fits-keep, same-trans}
@@ -46,7 +46,7 @@ module _ (text name pixels : List ℕ) (p : TextLocation) where
   abbrev size : Head → ℕ
   size h = count (h .width) (h .height) (length pixels)
 
-  closing-7 : Numbered 7 7 1 0 closing
+  closing-7 : Numbered 7 7 no-number closing
   closing-7 = search (numbers, closing-numbered)
 
   -- 8 comes from what follows the closing, and the rows are there
@@ -60,15 +60,15 @@ module _ (text name pixels : List ℕ) (p : TextLocation) where
   from-tail : (h : Head) (e d f : Bool) → eqb (length pixels / h .width) (h .height) ≡ e → few text name pixels p h ≡ d → (l : List ℕ) (n : TextLocation) → ending e d f l text n ≡ stop 8 p → After h n
   from-tail h true d f a b l n q = (
     le-ltb (length pixels / h .width) (h .height) (omega (arith, eqb-true (length pixels / h .width) (h .height) a)),
-    from-trailer n (stop-first trailer (λ a. give l) 8 text n (λ a. give-numbered {lo = 1} {hi = 0} {x = 1} {y = 0} l) (λ a b. omega arith) p .0 q),
+    from-trailer n (stop-first trailer (λ a. give l) 8 text n (λ a. give-numbered {lo = 1} {hi = 0} {bare = no-number} l) (λ a b. omega arith) p .0 q),
   )
-  from-tail h false true f a b l n q = absurd (omega (arith, placed-number (bind-numbered (item-numbered {lo = 6} {hi = 6} {x = 31} {y = 31} f refl) (λ b. none-numbered)) text n 8 p q))
+  from-tail h false true f a b l n q = absurd (omega (arith, placed-number (bind-numbered (item-numbered {lo = 6} {hi = 6} {bare = only-31} f refl) (λ b. none-numbered)) text n 8 p q))
     where
-      none-numbered : Numbered 6 6 31 31 mismatch
+      none-numbered : Numbered 6 6 only-31 mismatch
       none-numbered = search numbers
   from-tail h false false f a b l n q = (b, from-trailer n (stop-first trailer (λ a. mismatch) 8 text n (λ a. none-numbered) (λ a b. omega arith) p .0 q))
     where
-      none-numbered : Numbered 1 0 31 31 mismatch
+      none-numbered : Numbered 1 0 only-31 mismatch
       none-numbered = search numbers
 
   module _ (h : Head) (m : TextLocation) (l : List ℕ) (n o : TextLocation) (u : header lim text start ≡ ok h m) (v : items (bytesOf (h .width) (h .height)) true text m ≡ ok l n) (x : closing text n ≡ ok tt o) (y : tail text o ≡ stop 8 p) where
@@ -142,7 +142,7 @@ module _ (text name pixels : List ℕ) (p : TextLocation) where
       → (m : Mask) × (m .height ≤ rows m pixels) × (length (m .bytes) ≡ W m * m .height) × Begun (Header lim m · Data (m .bytes) · Closing) text × Savable text p (Format lim m)
   earliest-8 q =
       let (h, m, u, x) = headed text name pixels p 8 (omega arith) q in
-      let (l, n, v, y) = stop-second (items (size h) true) (tests text name pixels p h) 8 text m (items-numbered {lo = 6} {hi = 6} {x = 1} {y = 0} (size h) true refl) (λ a b. omega arith) .0 (p, x) in
+      let (l, n, v, y) = stop-second (items (size h) true) (tests text name pixels p h) 8 text m (items-numbered {lo = 6} {hi = 6} {bare = no-number} (size h) true refl) (λ a b. omega arith) .0 (p, x) in
       let (z, (o, a, b)) = from-tail h (eqb (length pixels / h .width) (h .height)) (few text name pixels p h) (eqb (size h) 0) refl refl l n (sym (bind-ok (items (size h) true) (tests text name pixels p h) text m l n v) ∙ x) in
       let (k, r) = enough text name pixels p h z in
       let w : items (bytesOf (h .width) (h .height)) true text m ≡ ok l n = ap (λ (k : ℕ). items k true text m) (sym r) ∙ v in

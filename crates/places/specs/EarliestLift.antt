@@ -4,6 +4,7 @@ use mathlib.Core.Logic.{_↔_}
 use Prim.Native.Nat.{ℕ, zero, suc, _≤_}
 use native.Mathlib.Omega.{arith}
 use native.Mathlib.Nat.{le-of-suc-le-suc, not-suc-le-zero}
+use mathlib.Core.Bool.{Bool}
 use mathlib.Core.List.{List, [], _∷_, _++_}
 use lib.ListN.{length, take, drop}
 use lib.Seq.{take-all}
@@ -75,7 +76,7 @@ at-start {B} {raw} {G} T L fits opens t c e q = go (opens .saves t start c e (go
 -- ---- after what stands before it
 
 -- a refusal with a line's number is the line's
-pub staged : {A B C : Type 0} (pre : Reader A) (line : A → Reader B) (next : A → B → Reader C) {lo hi x y lo′ hi′ x′ y′ : ℕ} (c : ℕ) → Numbered lo hi x y pre → (lo ≤ c → c ≤ hi → ⊥) → ((a : A) (b : B) → Numbered lo′ hi′ x′ y′ (next a b)) → (lo′ ≤ c → c ≤ hi′ → ⊥)
+pub staged : {A B C : Type 0} (pre : Reader A) (line : A → Reader B) (next : A → B → Reader C) {lo hi lo′ hi′ : ℕ} {bare bare′ : ℕ → Bool} (c : ℕ) → Numbered lo hi bare pre → (lo ≤ c → c ≤ hi → ⊥) → ((a : A) (b : B) → Numbered lo′ hi′ bare′ (next a b)) → (lo′ ≤ c → c ≤ hi′ → ⊥)
     → (t : List ℕ) (e : TextLocation) → (pre >>= λ a. line a >>= next a) t start ≡ stop c e → (a : A) × (m : TextLocation) × (pre t start ≡ ok a m) × (line a t m ≡ stop c e)
 staged pre line next c np o nn oo t e q =
     let (a, m, u, v) = stop-second pre (λ a. line a >>= next a) c t start np o .0 (e, q) in
@@ -119,7 +120,7 @@ module _ {A B C : Type 0} (pre : Reader A) (line : A → Reader B) (next : A →
               none-there
 
   -- a refusal with the line's number
-  pub at-stage : {lo hi x y lo′ hi′ x′ y′ : ℕ} (c : ℕ) → Numbered lo hi x y pre → (lo ≤ c → c ≤ hi → ⊥) → ((a : A) (b : B) → Numbered lo′ hi′ x′ y′ (next a b)) → (lo′ ≤ c → c ≤ hi′ → ⊥)
+  pub at-stage : {lo hi lo′ hi′ : ℕ} {bare bare′ : ℕ → Bool} (c : ℕ) → Numbered lo hi bare pre → (lo ≤ c → c ≤ hi → ⊥) → ((a : A) (b : B) → Numbered lo′ hi′ bare′ (next a b)) → (lo′ ≤ c → c ≤ hi′ → ⊥)
       → (t : List ℕ) (e : TextLocation) → (pre >>= λ a. line a >>= next a) t start ≡ stop c e → (a : A) × Begun (K a) t × Savable t e (λ u. (b : B) × T b × Begun (K a · L a b) u)
   at-stage c np o nn oo t e q =
       let (a, m, u, v) = staged pre line next c np o nn oo t e q in

@@ -29,7 +29,7 @@ use Rattle.grammar.specs.Bind.{bind-case, bind-ok, bind-stop, past-byte, move}
 use Rattle.grammar.specs.Fits.{Follow, Any, Off, Next, At, Fits, Begins, fit-run, fit-same, fit-drop, fit-bind, fit-done, fit-give}
 use Rattle.grammar.specs.Pieces.{begin, begins-all, begins-cat, gap-fits, solid-blank, gap-solid, class-fits, leading-fits, token-fits, fit-fixed, blank-is}
 use Rattle.claims.specs.Terms.{Begun, Opening}
-use Rattle.claims.specs.Numbers.{skip-numbered}
+use Rattle.claims.specs.Numbers.{no-number, skip-numbered}
 use Rattle.refusals.specs.Terms.{Token, Front, NotNext}
 use Rattle.refusals.specs.Lines.{raw, value-is, widths, front, front-fits, wide, next, header-is}
 use Rattle.refusals.specs.HeaderRows.{begun-in, begun-out, wide-numbered}
@@ -192,7 +192,7 @@ begins-so u = ((λ (x, y, z). there z), λ z. (tt, tt, back z))
 
 opening-saved : (t : List ℕ) (c : ℕ) (e : TextLocation) → opening t start ≡ stop c e → Savable t e (Begun Opening)
 opening-saved t c e q =
-    let x : opened t start ≡ stop c e = stop-first opened (λ a. skip isBlank) c t start (λ a. skip-numbered {lo = 1} {hi = 0} {x = 1} {y = 0} isBlank) (λ a b. omega arith) e .0 (rw opening-is at q) in
+    let x : opened t start ≡ stop c e = stop-first opened (λ a. skip isBlank) c t start (λ a. skip-numbered {lo = 1} {hi = 0} {bare = no-number} isBlank) (λ a b. omega arith) e .0 (rw opening-is at q) in
     savable-same t e begins-so (at-start (λ b. Unit {0}) (λ b. Star Skipped · Lit "#define" · Blank) (λ b. opened-fits) opened-open t c e x)
 
 -- ---- which symbols so far can be saved

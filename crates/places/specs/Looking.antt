@@ -153,13 +153,13 @@ module _ {A : Type 0} (limit : ℕ) (f : List ℕ → List ℕ → Reader A) whe
 
 module _ (limit : ℕ) where
   -- a symbol or what it stands before, after the opening
-  opened-halts : (K : Lang) (F : Follow) → Begins (Off blank) K F → Halts {A = List ℕ × ℕ} (symbol-then limit (λ name w. unsigned 11 w >>= λ v. need 21 (positive v) >>= λ n. give (name, n))) K F 1
+  opened-halts : (K : Lang) (F : Follow) → Begins (Off blank) K F → Halts {A = List ℕ × ℕ} (symbol-then limit (λ name w. unsigned 110 w >>= λ v. need 21 (positive v) >>= λ n. give (name, n))) K F 1
       → Halts (header limit) (Star Skipped · Lit "#define" · Gap · K) F 1
   unfolding header widthLine
   opened-halts K F b h = halt-bind _ tt tt leading-fits (begins-cat _ (begins-next 35 _)) (halt-first _ (halt-bind _ tt tt (fixed-fits 1 hashDefine) begins-any (halt-bind _ tt tt (gap-fits 1) b h)))
 
   height-halts : (name : List ℕ) (w : ℕ) → All solid name → Halts (header limit) (Front limit name (Side w) · Named (Word (name ++ ascii "_height")) · Full 11) On 2
-  height-halts name w s = rw (← whole) (halt-bind next (name, w) tt (first-fits limit (name, w)) begins-any (halt-first _ (line-halts 2 name (ascii "height") (side 12 22) s)))
+  height-halts name w s = rw (← whole) (halt-bind next (name, w) tt (first-fits limit (name, w)) begins-any (halt-first _ (line-halts 2 name (ascii "height") (side 120 22) s)))
     where
       whole : (first limit >>= next) ≡ header limit
       whole = unfold header first in assoc (leading 1 true) (λ a. widthLine limit) next
@@ -169,10 +169,10 @@ module _ (limit : ℕ) where
   hash-halts a K F c b h = rw (header-second limit) (halt-bind further a tt (second-fits limit a) begins-any (record { halts = λ t i w r d k o. hashed a t i (rw d (b .begins w r k o)) ∙ h .halts t i w r d k o }))
 
   x-halts : (a : Three) → All solid (a .0 .0) → Halts (header limit) (Both limit a · Named (Word (a .0 .0 ++ ascii "_x_hot")) · Full 11) On 3
-  x-halts a s = hash-halts a _ On 3 (begins-cat _ (begins-cat _ (begins-next 35 _))) (halt-first _ (line-halts 3 (a .0 .0) (ascii "x_hot") (signed 13) s))
+  x-halts a s = hash-halts a _ On 3 (begins-cat _ (begins-cat _ (begins-next 35 _))) (halt-first _ (line-halts 3 (a .0 .0) (ascii "x_hot") (signed 130) s))
 
   y-halts : (a : Three) (x : ℤ) → All solid (a .0 .0) → Halts (header limit) (Both limit a · Define (Word (a .0 .0 ++ ascii "_x_hot")) (Coordinate x) · Named (Word (a .0 .0 ++ ascii "_y_hot")) · Full 11) On 4
-  y-halts a x s = hash-halts a _ On 4 (begins-cat _ (define-begins _ _)) (halt-bind _ x tt (hot-fits 3 13 (a .0 .0) (ascii "x_hot") x s) begins-any (halt-first _ (line-halts 4 (a .0 .0) (ascii "y_hot") (signed 14) s)))
+  y-halts a x s = hash-halts a _ On 4 (begins-cat _ (define-begins _ _)) (halt-bind _ x tt (hot-fits 3 130 (a .0 .0) (ascii "x_hot") x s) begins-any (halt-first _ (line-halts 4 (a .0 .0) (ascii "y_hot") (signed 140) s)))
 
 -- ---- the text
 

@@ -223,7 +223,7 @@ front-checks : (limit : ℕ) → Checked (Found limit) (first limit)
 unfolding first widthLine
 front-checks limit =
     checked-weak (λ t i c e x. (let (o, y) = x .check .check .check in there t i c e x o y))
-    (run-checks leading-fits (record { near = leading-local 1 true; sharp = leading-sharp 1 true }) (λ a. run-checks (fixed-fits 1 hashDefine) (fixed-checks 1 hashDefine) (λ a. run-follows (gap-fits 1) (gap-checks 1) (λ a. symbol-checks limit (λ name w. unsigned 11 w >>= λ v. need 21 (positive v) >>= λ n. give (name, n)) (λ name w. first-checks (need-checks _ _) (λ v. first-checks (need-checks 21 _) (λ n. give-checks (name, n))))))))
+    (run-checks leading-fits (record { near = leading-local 1 true; sharp = leading-sharp 1 true }) (λ a. run-checks (fixed-fits 1 hashDefine) (fixed-checks 1 hashDefine) (λ a. run-follows (gap-fits 1) (gap-checks 1) (λ a. symbol-checks limit (λ name w. unsigned 110 w >>= λ v. need 21 (positive v) >>= λ n. give (name, n)) (λ name w. first-checks (need-checks _ _) (λ v. first-checks (need-checks 21 _) (λ n. give-checks (name, n))))))))
   where
     -- with what is known in place of what may be
     onto : (P : Looks) (t : List ℕ) (i : TextLocation) (c : ℕ) (e : TextLocation) (x : After (Star Skipped) (After (Lit "#define") (After Gap (Reads limit))) t i c e) → P t (x .check .check .place) c e → After Opening P t i c e
@@ -270,12 +270,12 @@ module _ (name : List ℕ) where
 
   hot-line : {A : Type 0} (k : ℤ → ℤ → Reader A) → ((x y : ℤ) → Checked Never (k x y)) → Checked (Given name (HotLook name)) (hotspot name k)
   hot-line k h =
-      let y-line : (x : ℤ) → Checked (After (Named (Word (name ++ ascii "_y_hot"))) (Long 4 11)) (line 4 name (ascii "_y_hot") (signed 14) >>= λ y. k x y) = λ x. first-checks (line-checks 4 name (ascii "_y_hot") (signed 14) (λ w. need-checks _ _)) (h x) in
-      let x-line : Checked (After (Named (Word (name ++ ascii "_x_hot"))) (Long 3 11)) (line 3 name (ascii "_x_hot") (signed 13)) = line-checks 3 name (ascii "_x_hot") (signed 13) (λ w. need-checks _ _) in
+      let y-line : (x : ℤ) → Checked (After (Named (Word (name ++ ascii "_y_hot"))) (Long 4 11)) (line 4 name (ascii "_y_hot") (signed 140) >>= λ y. k x y) = λ x. first-checks (line-checks 4 name (ascii "_y_hot") (signed 140) (λ w. need-checks _ _)) (h x) in
+      let x-line : Checked (After (Named (Word (name ++ ascii "_x_hot"))) (Long 3 11)) (line 3 name (ascii "_x_hot") (signed 130)) = line-checks 3 name (ascii "_x_hot") (signed 130) (λ w. need-checks _ _) in
       record {
         near = bind-local (x-line .near) (λ x. y-line x .near);
         sharp = bind-looks (λ x. After (Named (Word (name ++ ascii "_y_hot"))) (Long 4 11)) (x-line .near) (λ x. y-line x .near) (x-line .sharp) (λ x. y-line x .sharp) (λ t i c e x s. at-x x)
-            (λ t i x m c e q y s. at-y x (record { place = m; word = hot-fits 3 13 name (ascii "x_hot") x s .to t i m q .1; check = y }));
+            (λ t i x m c e q y s. at-y x (record { place = m; word = hot-fits 3 130 name (ascii "x_hot") x s .to t i m q .1; check = y }));
       }
 
   rest-checks : (w h : ℕ) → Checked (Given name (HotLook name)) (headerRest name w h)
@@ -287,7 +287,7 @@ module _ (name : List ℕ) where
 
 next-checks : (nw : List ℕ × ℕ) → Checked (Given (nw .0) (NextLook (nw .0))) (next nw)
 next-checks (name, w) =
-    let h-line : Checked (After (Named (Word (name ++ ascii "_height"))) (Long 2 11)) (line 2 name (ascii "_height") (side 12 22)) = line-checks 2 name (ascii "_height") (side 12 22) (λ v. first-checks (need-checks _ _) (λ x. need-checks 22 _)) in
+    let h-line : Checked (After (Named (Word (name ++ ascii "_height"))) (Long 2 11)) (line 2 name (ascii "_height") (side 120 22)) = line-checks 2 name (ascii "_height") (side 120 22) (λ v. first-checks (need-checks _ _) (λ x. need-checks 22 _)) in
     record {
       near = bind-local (h-line .near) (λ h. rest-checks name w h .near);
       sharp = bind-looks (λ h. Given name (HotLook name)) (h-line .near) (λ h. rest-checks name w h .near) (h-line .sharp) (λ h. rest-checks name w h .sharp) (λ t i c e x s. at-height x)

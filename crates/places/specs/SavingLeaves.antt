@@ -18,7 +18,7 @@ use Rattle.grammar.specs.Lang.{Lang, Word, Many, All}
 use Rattle.grammar.specs.Grammar.{solid}
 use Rattle.grammar.specs.Fits.{Follow, Any, End, Off, Next}
 use Rattle.grammar.specs.Pieces.{one-fits, skip-fits, end-fits, blank-is, solid-blank}
-use Rattle.claims.specs.Numbers.{skip-numbered, placed-number}
+use Rattle.claims.specs.Numbers.{no-number, skip-numbered, placed-number}
 use Rattle.places.specs.Sharp.{same-next}
 use Rattle.places.specs.Saving.{Good, Way, Left, wrong, finished, Saved, Open, fits-keep, word-way, bind-open, same-trans, at-end}
 
@@ -89,7 +89,7 @@ skip-open class {F} k = record {
     empty = λ t i a q h. h;
     can = λ t i g. word-way (λ b. Unit {0}) (λ b. Many class) (λ b. skip-fits class) k tt [] tt tt (λ r h. h) t i g;
   };
-  saves = λ t i c e g q. absurd (omega (arith, placed-number (skip-numbered {lo = 1} {hi = 0} {x = 1} {y = 0} class) t i c e q));
+  saves = λ t i c e g q. absurd (omega (arith, placed-number (skip-numbered {lo = 1} {hi = 0} {bare = no-number} class) t i c e q));
 }
 
 -- ---- lexical rules

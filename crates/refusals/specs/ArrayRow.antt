@@ -24,7 +24,7 @@ use Rattle.grammar.specs.Pieces.{begins-any}
 use Rattle.grammar.specs.Lines.{hot-fits}
 use Rattle.grammar.specs.Headers.{header-exactly}
 use Rattle.claims.specs.Terms.{Begun}
-use Rattle.claims.specs.Numbers.{Numbered, numbers, width-numbered, array-numbered, placed-number, unplaced-number}
+use Rattle.claims.specs.Numbers.{no-number, in-header, Numbered, numbers, width-numbered, array-numbered, placed-number, untold}
 use Rattle.refusals.specs.Terms.{NoArrayLine, Placed, No}
 use Rattle.refusals.specs.Stages.{both-ways, given, chain, at-parts, read-at, later-stop, begun}
 use Rattle.refusals.specs.Lines.{define-begins}
@@ -36,7 +36,7 @@ abbrev pub Five : Type 0
 Five = Four × ℤ
 
 unfoldable pub fourth : ℕ → Reader Five
-fourth limit = third limit >>= λ b. line 4 (b .0 .0 .0) (ascii "_y_hot") (signed 14) >>= λ y. give (b, y)
+fourth limit = third limit >>= λ b. line 4 (b .0 .0 .0) (ascii "_y_hot") (signed 140) >>= λ y. give (b, y)
 
 abbrev pub Spotted : ℕ → Five → Lang
 Spotted limit c = Crossed limit (c .0) · Define (Word (c .0 .0 .0 .0 ++ ascii "_y_hot")) (Coordinate (c .1))
@@ -45,7 +45,7 @@ pub fourth-fits : (limit : ℕ) (c : Five) → Fits (fourth limit) c (Unit {0}) 
 unfolding fourth
 fourth-fits limit (b0, y0) =
     fit-drop (fit-bind b0 (λ b. Unit {0}) (Crossed limit) (λ b. Define (Word (b .0 .0 .0 ++ ascii "_y_hot")) (Coordinate y0)) (λ b. All solid (b .0 .0 .0)) (third-fits limit) (crossed-name limit) begins-any (λ b s.
-    fit-drop (fit-last y0 (λ y. Unit {0}) (λ y. Define (Word (b .0 .0 .0 ++ ascii "_y_hot")) (Coordinate y)) (λ y. hot-fits 4 14 (b .0 .0 .0) (ascii "y_hot") y s) (λ y. fit-give (b, y) (there b y, λ e. (ap (λ (r : Five). r .1) e, (ap (λ (r : Five). r .0) e, tt)))))))
+    fit-drop (fit-last y0 (λ y. Unit {0}) (λ y. Define (Word (b .0 .0 .0 ++ ascii "_y_hot")) (Coordinate y)) (λ y. hot-fits 4 140 (b .0 .0 .0) (ascii "y_hot") y s) (λ y. fit-give (b, y) (there b y, λ e. (ap (λ (r : Five). r .1) e, (ap (λ (r : Five). r .0) e, tt)))))))
   where
     there : (b : Four) (y : ℤ) → (y ≡ y0) × ((b ≡ b0) × Unit {0}) → _≡_ {A = Five} (b, y) (b0, y0)
     there b y (p, (q, u)) = rw (p, q)
@@ -58,11 +58,11 @@ pub fourth-hot : (limit : ℕ) → (second limit >>= hot) ≡ (fourth limit >>= 
 unfolding third fourth
 fourth-hot limit = sym (chain _ _ (λ b. after-x (b .0) (b .1)) (λ a. chain _ _ _ (λ x. given (a, x) (λ b. after-x (b .0) (b .1))))) ∙ sym (chain (third limit) _ done (λ b. chain _ _ done (λ y. given (b, y) done)))
 
-pub fourth-numbered : (limit : ℕ) → Numbered 1 4 11 22 (fourth limit)
+pub fourth-numbered : (limit : ℕ) → Numbered 1 4 in-header (fourth limit)
 unfolding fourth third second first
 fourth-numbered limit = search (numbers, width-numbered) depth 40 fits 10000
 
-array-5 : (name : List ℕ) → Numbered 5 5 1 0 (arrayLine 5 name)
+array-5 : (name : List ℕ) → Numbered 5 5 no-number (arrayLine 5 name)
 array-5 name = array-numbered name refl
 
 -- the array line is there, or the refusal is 5
@@ -76,7 +76,7 @@ ending-case name w h o t i = go (arrayLine 5 name t i) refl
     go : (r : Result (Unit {0})) → arrayLine 5 name t i ≡ r → ((e : TextLocation) × (then r (λ a e. ok head e) ≡ ok head e)) ⊎ ((q : TextLocation) × (then r (λ a e. ok head e) ≡ stop 5 q))
     go (ok a e) q = inl (e, refl)
     go (stop c e) q = let z : c ≡ 5 = omega (arith, placed-number (array-5 name) t i c e q) in inr (e, ap (λ (k : ℕ). stop k e) z)
-    go (bad c e) q = absurd (omega (arith, unplaced-number (array-5 name) t i c e q))
+    go (bad c e) q = absurd (untold (array-5 name) t i c e refl q)
 
 module _ (text name pixels : List ℕ) where
   abbrev lim : ℕ

@@ -27,7 +27,7 @@ use Rattle.grammar.specs.Fits.{Any, End, Fits, fit-then}
 use Rattle.grammar.specs.Exact.{first-fits, next-fits, closing-fits, tail-fits}
 use Rattle.claims.specs.Terms.{Begun, Aligned}
 use Rattle.claims.specs.Cuts.{walk-past}
-use Rattle.claims.specs.Numbers.{Numbered, item-numbered, closing-numbered, tail-numbered, trailer-numbered, placed-number}
+use Rattle.claims.specs.Numbers.{no-number, Numbered, item-numbered, closing-numbered, tail-numbered, trailer-numbered, placed-number}
 use Rattle.claims.specs.Steps.{Native, not-foreign, next-answer, next-decoder, last-answer}
 use Rattle.refusals.specs.Terms.{Placed, No, Foreign, sizeOf, ahead, moved, Item}
 use Rattle.refusals.specs.Stages.{alone, stop-first, stop-second}
@@ -118,12 +118,12 @@ module _ (t : List ℕ) (d : XbmStreamDecoder) (h : Foreign t d → ⊥) where
   pub row-6 : Placed (stepOf t d .answer) 6 ↔ ((k < sizeOf d) × ((b : ℕ) → No (Item k b) (ahead t d)))
   row-6 = ((λ (p, q). go left-or-not p q), λ (l, g). back l g)
     where
-      only : Numbered 6 6 1 0 (item (eqb k 0))
+      only : Numbered 6 6 no-number (item (eqb k 0))
       only = item-numbered (eqb k 0) refl
 
       go : (k < sizeOf d) ⊎ (k ≡ sizeOf d) → (p : TextLocation) → stepOf t d .answer ≡ refused 6 p → (k < sizeOf d) × ((b : ℕ) → No (Item k b) (ahead t d))
       go (inl l) p q = (l, λ b s. (let (e, r) = stands (item-fits k b) .1 s in alone 6 t here only .0 (p, stopped (λ b. some b) (item (eqb k 0) t here) 6 p .0 (sym (next l) ∙ q)) b e r))
-      go (inr l) p q = absurd (omega (arith, placed-number (trailer-numbered {lo = 7} {hi = 8} {x = 1} {y = 0} refl refl) t here 6 p (stopped (λ u. none) (trailer t here) 6 p .0 (sym (last l) ∙ q))))
+      go (inr l) p q = absurd (omega (arith, placed-number (trailer-numbered {lo = 7} {hi = 8} {bare = no-number} refl refl) t here 6 p (stopped (λ u. none) (trailer t here) 6 p .0 (sym (last l) ∙ q))))
 
       back : k < sizeOf d → ((b : ℕ) → No (Item k b) (ahead t d)) → Placed (stepOf t d .answer) 6
       back l g = let (p, q) = alone 6 t here only .1 (λ b e r. g b (stands (item-fits k b) .0 (e, r))) in (p, next l ∙ stopped (λ b. some b) (item (eqb k 0) t here) 6 p .1 q)
@@ -148,10 +148,10 @@ module _ (t : List ℕ) (d : XbmStreamDecoder) (h : Foreign t d → ⊥) where
   unfolding End
   after-end l s = last-decoder t d sound l ∙ rw (trailer-fits .from t here (ahead t d) [] tt (left ∙ sym (append-nil (ahead t d))) s refl)
 
-  closes : Numbered 7 7 1 0 closing
+  closes : Numbered 7 7 no-number closing
   closes = closing-numbered refl
 
-  follows : Numbered 8 8 1 0 tail
+  follows : Numbered 8 8 no-number tail
   follows = tail-numbered refl
 
   -- the trailer is not a data byte's: 6 alone is
@@ -159,7 +159,7 @@ module _ (t : List ℕ) (d : XbmStreamDecoder) (h : Foreign t d → ⊥) where
   not-byte c h p q = go left-or-not
     where
       go : (k < sizeOf d) ⊎ (k ≡ sizeOf d) → (k ≡ sizeOf d) × (trailer t here ≡ stop c p)
-      go (inl l) = absurd (omega (arith, placed-number (item-numbered {lo = 6} {hi = 6} {x = 1} {y = 0} (eqb k 0) refl) t here c p (stopped (λ b. some b) (item (eqb k 0) t here) c p .0 (sym (next l) ∙ q))))
+      go (inl l) = absurd (omega (arith, placed-number (item-numbered {lo = 6} {hi = 6} {bare = no-number} (eqb k 0) refl) t here c p (stopped (λ b. some b) (item (eqb k 0) t here) c p .0 (sym (next l) ∙ q))))
       go (inr l) = (l, stopped (λ u. none) (trailer t here) c p .0 (sym (last l) ∙ q))
 
   pub row-7 : Placed (stepOf t d .answer) 7 ↔ ((k ≡ sizeOf d) × No Closing (ahead t d))

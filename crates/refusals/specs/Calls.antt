@@ -21,7 +21,7 @@ use Rattle.body.specs.Data.{item, trailer, closing, brace, tail, item-local, tr
 use Rattle.decoder.specs.declared.XbmStreamDecoder.{XbmStreamDecoder}
 use Rattle.decoder.specs.Step.{foreign, more, called, spent, placedAt, stepOf}
 use Rattle.grammar.specs.Bind.{bind-case, bind-ok, bind-stop}
-use Rattle.claims.specs.Numbers.{Numbered, bind-numbered, give-numbered, item-numbered, trailer-numbered, unplaced-number}
+use Rattle.claims.specs.Numbers.{no-number, Numbered, bind-numbered, give-numbered, item-numbered, trailer-numbered, untold}
 use Rattle.claims.specs.Steps.{Native, not-foreign, sizeOf, next-answer, last-answer}
 use Rattle.refusals.specs.Terms.{moved, Spent, Foreign, no-width, no-height, position, byte, column, line, start}
 
@@ -53,11 +53,11 @@ foreign-exactly t d = go _ _ _ _ _ _ refl refl refl refl refl refl
         none-left (start x) = x (omega (arith, eqb-true (d .location .start .0 + d .location .column .0) (d .location .byte .0) u))
         none-left (line x) = omega (arith, ltb-false (d .location .byte .0 + 1) (d .location .line .0) v)
 
-called-numbered : (d : XbmStreamDecoder) → Numbered 6 8 1 0 (called d)
+called-numbered : (d : XbmStreamDecoder) → Numbered 6 8 no-number (called d)
 unfolding called
 called-numbered d = go (more d)
   where
-    go : (b : Bool) → Numbered 6 8 1 0 (pick b (item (eqb (d .«current_position») 0) >>= λ b. give (some b)) (trailer >> give none))
+    go : (b : Bool) → Numbered 6 8 no-number (pick b (item (eqb (d .«current_position») 0) >>= λ b. give (some b)) (trailer >> give none))
     go true = bind-numbered (item-numbered _ refl) (λ b. give-numbered (some b))
     go false = bind-numbered (trailer-numbered refl refl) (λ b. give-numbered none)
 
@@ -69,7 +69,7 @@ nine t d = go (foreign t d) refl
     never : (r : Result (Option ℕ)) → called d t (d .location) ≡ r → outcome (λ b. b) r ≡ unplaced 9 → ⊥
     never (ok a e) q x = let z : _≡_ {A = ℕ} 0 1 = cc in omega arith
     never (stop c e) q x = let z : _≡_ {A = ℕ} 0 1 = cc in omega arith
-    never (bad c e) q x = omega (arith, unplaced-number (called-numbered d) t (d .location) c e q)
+    never (bad c e) q x = untold (called-numbered d) t (d .location) c e refl q
 
     go : (f : Bool) → foreign t d ≡ f → (pick f (unplaced 9) (outcome (λ b. b) (called d t (d .location))) ≡ unplaced 9) ↔ Foreign t d
     go true q = ((λ x. foreign-exactly t d .0 q), λ x. refl)

@@ -26,7 +26,7 @@ use Rattle.grammar.specs.Devices.{headOf, made}
 use Rattle.grammar.specs.Headers.{header-exactly}
 use Rattle.grammar.specs.Exact.{data-fits}
 use Rattle.claims.specs.Terms.{Begun, W, rows}
-use Rattle.claims.specs.Numbers.{Numbered, numbers, bind-numbered, give-numbered, header-numbered, item-numbered, items-numbered, trailer-numbered}
+use Rattle.claims.specs.Numbers.{no-number, only-31, Numbered, numbers, bind-numbered, give-numbered, header-numbered, item-numbered, items-numbered, trailer-numbered}
 use Rattle.claims.specs.Symbol.{lead}
 use Rattle.claims.specs.Mismatch.{apart, joined, zero-test, whole-few}
 use Rattle.refusals.specs.Ends.{Whole, seven, eight, whole-of}
@@ -120,11 +120,11 @@ module _ (t : List ℕ) (i : TextLocation) where
     next-one : Reader ℕ
     next-one = items few true >>= λ l. item (eqb few 0)
 
-    next-numbered : Numbered 6 6 1 0 next-one
+    next-numbered : Numbered 6 6 no-number next-one
     unfolding next-one
     next-numbered = bind-numbered (items-numbered few true refl) (λ l. item-numbered (eqb few 0) refl)
 
-    none-numbered : (b : ℕ) → Numbered 1 0 31 31 mismatch
+    none-numbered : (b : ℕ) → Numbered 1 0 only-31 mismatch
     none-numbered b = search numbers
 
     -- 6 into too few rows: not one more than theirs
@@ -135,7 +135,7 @@ module _ (t : List ℕ) (i : TextLocation) where
       λ g. (let (q, x) = alone 6 t i next-numbered .1 (λ b e u. bind-case (items few true) (λ l. item (eqb few 0)) t i u (λ k j p s. g (k ++ b ∷ [], e, joined few true (eqb few 0) t i k j b e (zero-test few .0) (zero-test few .1) p s))) in (q, stop-first next-one (λ b. mismatch) 6 t i none-numbered (λ a b. omega arith) q .1 x)),
     )
 
-    ending-numbered : (s f : Bool) (l : List ℕ) → Numbered 7 8 31 31 (ending s false f l)
+    ending-numbered : (s f : Bool) (l : List ℕ) → Numbered 7 8 only-31 (ending s false f l)
     ending-numbered true f l = search (numbers, trailer-numbered)
     ending-numbered false f l = search (numbers, trailer-numbered)
 
@@ -156,8 +156,8 @@ module _ (text name pixels : List ℕ) where
   told-6 : Placed (reading text name pixels .answer) 6 ↔ ((h : Head) × (e : TextLocation) × (header limit text start ≡ ok h e) × ((q : TextLocation) × (whole (h .width) (h .height) (length pixels) text e ≡ stop 6 q)))
   unfolding reading picture
   told-6 = both-ways (go (picture limit (length pixels) text start)) (both-ways (stop-second (header limit) rest 6 text start (header-numbered limit) (λ a b. omega arith)) (
-    (λ (h, e, u, (q, x)). (h, e, u, (q, stop-first (whole (h .width) (h .height) (length pixels)) (λ l. give (h, l)) 6 text e (λ l. give-numbered {lo = 1} {hi = 0} {x = 1} {y = 0} (h, l)) (λ a b. omega arith) q .0 x))),
-    λ (h, e, u, (q, x)). (h, e, u, (q, stop-first (whole (h .width) (h .height) (length pixels)) (λ l. give (h, l)) 6 text e (λ l. give-numbered {lo = 1} {hi = 0} {x = 1} {y = 0} (h, l)) (λ a b. omega arith) q .1 x)),
+    (λ (h, e, u, (q, x)). (h, e, u, (q, stop-first (whole (h .width) (h .height) (length pixels)) (λ l. give (h, l)) 6 text e (λ l. give-numbered {lo = 1} {hi = 0} {bare = no-number} (h, l)) (λ a b. omega arith) q .0 x))),
+    λ (h, e, u, (q, x)). (h, e, u, (q, stop-first (whole (h .width) (h .height) (length pixels)) (λ l. give (h, l)) 6 text e (λ l. give-numbered {lo = 1} {hi = 0} {bare = no-number} (h, l)) (λ a b. omega arith) q .1 x)),
   ))
     where
       rest : Head → Reader (Head × List ℕ)

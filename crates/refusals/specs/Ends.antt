@@ -25,7 +25,7 @@ use Rattle.grammar.specs.Bind.{past-append, move}
 use Rattle.grammar.specs.Fits.{Any, End}
 use Rattle.grammar.specs.Exact.{start-rest, data-fits, closing-fits, tail-fits}
 use Rattle.claims.specs.Terms.{Begun, W, rows}
-use Rattle.claims.specs.Numbers.{header-numbered, items-numbered, item-numbered, closing-numbered, tail-numbered, whole-numbered, placed-number, unplaced-number}
+use Rattle.claims.specs.Numbers.{no-number, header-numbered, items-numbered, item-numbered, closing-numbered, tail-numbered, whole-numbered, placed-number, untold, thirty-one}
 use Rattle.claims.specs.Limits.{heads}
 
 -- the header and all data bytes stand at the text's start, in u; and the buffer has rows enough
@@ -90,12 +90,12 @@ module _ (text name pixels : List ℕ) where
     seven = go (closing text (past start u)) refl
       where
         go : (r : Result (Unit {0})) → closing text (past start u) ≡ r → ((p : TextLocation) × (reading text name pixels .answer ≡ refused 7 p)) ↔ (Begun Closing (w .rest) → ⊥)
-        go (ok a e) q = ((λ (p, x). absurd (omega (arith, placed-number (tail-numbered {lo = 8} {hi = 8} {x = 1} {y = 0} refl) text e 7 p (rw q at (ended m u w 7 p .0 x))))), λ f. absurd (f (closed-to e q)))
-        go (bad c e) q = absurd (omega (arith, unplaced-number (closing-numbered {lo = 7} {hi = 7} {x = 1} {y = 0} refl) text (past start u) c e q))
+        go (ok a e) q = ((λ (p, x). absurd (omega (arith, placed-number (tail-numbered {lo = 8} {hi = 8} {bare = no-number} refl) text e 7 p (rw q at (ended m u w 7 p .0 x))))), λ f. absurd (f (closed-to e q)))
+        go (bad c e) q = absurd (untold (closing-numbered {lo = 7} {hi = 7} {bare = no-number} refl) text (past start u) c e refl q)
         go (stop c e) q = ((λ (p, x) (z, v, s, k). (let y : _≡_ {A = ℕ} 0 1 = cc (q, closed-at z v s k) in omega arith)), λ f. (e, ended m u w 7 e .1 (rw (q, number) refl)))
           where
             number : c ≡ 7
-            number = omega (arith, placed-number (closing-numbered {lo = 7} {hi = 7} {x = 1} {y = 0} refl) text (past start u) c e q)
+            number = omega (arith, placed-number (closing-numbered {lo = 7} {hi = 7} {bare = no-number} refl) text (past start u) c e q)
 
     -- 8: they do, and what follows is not loose space to the end
     pub eight : ((p : TextLocation) × (reading text name pixels .answer ≡ refused 8 p)) ↔ (Begun Closing (w .rest) × ((z v : List ℕ) → w .rest ≡ z ++ v → Closing z → Loose v → ⊥))
@@ -118,15 +118,15 @@ module _ (text name pixels : List ℕ) where
 
         last : (e : TextLocation) → closing text (past start u) ≡ ok tt e → (r : Result (Unit {0})) → tail text e ≡ r → ((p : TextLocation) × (reading text name pixels .answer ≡ refused 8 p)) ↔ (Begun Closing (w .rest) × ((z v : List ℕ) → w .rest ≡ z ++ v → Closing z → Loose v → ⊥))
         last e q (ok a f) r = ((λ (p, x). (let y : _≡_ {A = ℕ} 0 1 = cc (r, rw q at (ended m u w 8 p .0 x)) in absurd (omega arith))), λ (b, g). (let (z, v, s, k, l) = no-loose e f q r in absurd (g z v s k l)))
-        last e q (bad c f) r = absurd (omega (arith, unplaced-number (tail-numbered {lo = 8} {hi = 8} {x = 1} {y = 0} refl) text e c f r))
+        last e q (bad c f) r = absurd (untold (tail-numbered {lo = 8} {hi = 8} {bare = no-number} refl) text e c f refl r)
         last e q (stop c f) r =
-            let n : c ≡ 8 = omega (arith, placed-number (tail-numbered {lo = 8} {hi = 8} {x = 1} {y = 0} refl) text e c f r) in
+            let n : c ≡ 8 = omega (arith, placed-number (tail-numbered {lo = 8} {hi = 8} {bare = no-number} refl) text e c f r) in
             ((λ x. (closed-to e q, λ z v s k l. (let y : _≡_ {A = ℕ} 0 1 = cc (r, loose-at e q z v s k l) in omega arith))), λ x. (f, ended m u w 8 f .1 (rw (q, r, n))))
 
         go : (r : Result (Unit {0})) → closing text (past start u) ≡ r → ((p : TextLocation) × (reading text name pixels .answer ≡ refused 8 p)) ↔ (Begun Closing (w .rest) × ((z v : List ℕ) → w .rest ≡ z ++ v → Closing z → Loose v → ⊥))
         go (ok a e) q = last e q (tail text e) refl
-        go (bad c e) q = absurd (omega (arith, unplaced-number (closing-numbered {lo = 7} {hi = 7} {x = 1} {y = 0} refl) text (past start u) c e q))
-        go (stop c e) q = ((λ (p, x). (let y : c ≡ 8 = cc (rw q at (ended m u w 8 p .0 x)) in absurd (omega (arith, placed-number (closing-numbered {lo = 7} {hi = 7} {x = 1} {y = 0} refl) text (past start u) c e q)))), λ ((z, v, s, k), g). (let y : _≡_ {A = ℕ} 0 1 = cc (q, closed-at z v s k) in absurd (omega arith)))
+        go (bad c e) q = absurd (untold (closing-numbered {lo = 7} {hi = 7} {bare = no-number} refl) text (past start u) c e refl q)
+        go (stop c e) q = ((λ (p, x). (let y : c ≡ 8 = cc (rw q at (ended m u w 8 p .0 x)) in absurd (omega (arith, placed-number (closing-numbered {lo = 7} {hi = 7} {bare = no-number} refl) text (past start u) c e q)))), λ ((z, v, s, k), g). (let y : _≡_ {A = ℕ} 0 1 = cc (q, closed-at z v s k) in absurd (omega arith)))
 
   -- 7 and 8 come nowhere else
   pub whole-of : (c : ℕ) (p : TextLocation) → reading text name pixels .answer ≡ refused c p → 7 ≤ c → (m : Mask) × (u : List ℕ) × Whole (length name) text pixels u m
@@ -153,13 +153,13 @@ module _ (text name pixels : List ℕ) where
           few-case : (r : Result ℕ) → item f text j ≡ r → told (then (then {B = List ℕ} r (λ a e. bad 31 e)) (λ l e. ok (h, l) e)) ≡ refused c p → Goal
           few-case (ok a e) q x = let z : _≡_ {A = ℕ} 0 1 = cc in absurd (omega arith)
           few-case (bad d e) q x = let z : _≡_ {A = ℕ} 0 1 = cc in absurd (omega arith)
-          few-case (stop d e) q x = let z : d ≡ c = cc in absurd (omega (arith, placed-number (item-numbered {lo = 6} {hi = 6} {x = 1} {y = 0} f refl) text j d e q))
+          few-case (stop d e) q x = let z : d ≡ c = cc in absurd (omega (arith, placed-number (item-numbered {lo = 6} {hi = 6} {bare = no-number} f refl) text j d e q))
 
       body : (h : Head) (e : TextLocation) → header (length name) text start ≡ ok h e → (r : Result (List ℕ)) → items (count (h .width) (h .height) (length pixels)) true text e ≡ r
           → told (then (then r (λ b j. ending (eqb (length pixels / h .width) (h .height)) (ltb (length pixels / h .width) (h .height)) (eqb (count (h .width) (h .height) (length pixels)) 0) b text j)) (λ l e. ok (h, l) e)) ≡ refused c p → Goal
       body h e q (ok b j) r x = tailed h e b j q r (eqb (length pixels / h .width) (h .height)) (ltb (length pixels / h .width) (h .height)) refl refl (eqb (count (h .width) (h .height) (length pixels)) 0) x
       body h e q (bad d j) r x = let z : _≡_ {A = ℕ} 0 1 = cc in absurd (omega arith)
-      body h e q (stop d j) r x = let z : d ≡ c = cc in absurd (omega (arith, placed-number (items-numbered {lo = 6} {hi = 6} {x = 1} {y = 0} (count (h .width) (h .height) (length pixels)) true refl) text e d j r))
+      body h e q (stop d j) r x = let z : d ≡ c = cc in absurd (omega (arith, placed-number (items-numbered {lo = 6} {hi = 6} {bare = no-number} (count (h .width) (h .height) (length pixels)) true refl) text e d j r))
 
       head : (r : Result Head) → header (length name) text start ≡ r → told (then r (λ h e. then (then (items (count (h .width) (h .height) (length pixels)) true text e) (λ b j. ending (eqb (length pixels / h .width) (h .height)) (ltb (length pixels / h .width) (h .height)) (eqb (count (h .width) (h .height) (length pixels)) 0) b text j)) (λ l e. ok (h, l) e))) ≡ refused c p → Goal
       head (ok h e) q x = body h e q (items (count (h .width) (h .height) (length pixels)) true text e) refl x
@@ -181,4 +181,4 @@ later text name pixels m (u, v, q, k) =
     go : (r : Result (List ℕ)) → whole (m .width) (m .height) (length pixels) text (past start u) ≡ r → Later (outcome (λ (p : Head × List ℕ). p .0) (then r (λ l e. ok (headOf m, l) e)))
     go (ok l e) z = tt
     go (stop c e) z = placed-number (whole-numbered (m .width) (m .height) (length pixels)) text (past start u) c e z
-    go (bad c e) z = omega (arith, unplaced-number (whole-numbered (m .width) (m .height) (length pixels)) text (past start u) c e z)
+    go (bad c e) z = thirty-one (whole-numbered (m .width) (m .height) (length pixels)) text (past start u) c e z

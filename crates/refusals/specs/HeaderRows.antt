@@ -1,13 +1,14 @@
--- The refusals of the width line and the height line, two-sided: 1, 11, 21 and 2, 12, 22.
+-- The refusals of the width line and the height line, two-sided: 1, 111 to 114, 21 and 2, 121 to 124, 22.
 use mathlib.Core.Path.{_≡_, refl, sym, ap, _∙_}
 use mathlib.Core.Logic.{_↔_}
 use Prim.Native.Nat.{ℕ, zero, suc, _+_, _-_, _*_, _≤_}
 use native.Mathlib.Omega.{arith}
-use mathlib.Core.Option.{Option, none, some}
-use mathlib.Core.Bool.{true, false}
+use mathlib.Core.Option.{none, some}
+use mathlib.Core.Bool.{Bool, true, false, not}
 use mathlib.Core.List.{List, [], _∷_, _++_}
 use lib.ListN.{length}
 use lib.Dec.{eqb}
+use borrow.Author.Tests.{eq-eqb}
 use Rattle.text.specs.declared.TextLocation.{TextLocation}
 use Rattle.text.specs.Ascii.{ascii}
 use Rattle.text.specs.Place.{start}
@@ -15,7 +16,11 @@ use Rattle.text.specs.Reader.{Result, ok, stop, bad, then, Reader, _>>=_, _>>_,
 use Rattle.text.specs.Leaf.{give, need}
 use Rattle.text.specs.Outcome.{Outcome, refused, unplaced, outcome}
 use Rattle.lexical.specs.Lexical.{locals, milds, leading}
-use Rattle.lines.specs.Lines.{line-laws, element-local, element-mild, side, positive, widthLine, arrayLine}
+use Rattle.integer.specs.declared.Fault.{Fault}
+use Rattle.integer.specs.declared.Fault.the-variants.{Empty, LeadingZero, NotDigit, OutOfRange}
+use Rattle.integer.specs.declared.Unsigned.the-variants.{Bad}
+use Rattle.integer.specs.Decimal.{parseU32, faultNumber, unsignedFault}
+use Rattle.lines.specs.Lines.{line-laws, element-local, element-mild, unsigned, signed, side, positive, widthLine, arrayLine}
 use Rattle.header.specs.Header.{Head, rest, header}
 use Rattle.rows.specs.Rows.{whole}
 use Rattle.image.specs.Reading.{picture, reading}
@@ -25,10 +30,12 @@ use Rattle.grammar.specs.Tests.{number, value-up, number→decimal, decimal→n
 use Rattle.grammar.specs.Fits.{Any, Fits, fit-run}
 use Rattle.grammar.specs.Pieces.{leading-fits}
 use Rattle.grammar.specs.Lines.{width-fits}
+use Rattle.faults.specs.Terms.{Says}
 use Rattle.claims.specs.Terms.{Begun}
-use Rattle.claims.specs.Numbers.{Numbered, numbers, width-numbered, rest-numbered, whole-numbered, placed-number, unplaced-number}
-use Rattle.refusals.specs.Terms.{NoWidthLine, BadWidth, ZeroWidth, NoHeightLine, BadHeight, ZeroHeight, Token, Front, Second, NoSide, Placed}
-use Rattle.refusals.specs.Stages.{both-ways, assoc, Quiet, quiet-mild, quiet-bind, quiet-need, quiet-fork, need-none, need-some, stage-stop, stage-bad, after-stop, after-bad, begun}
+use Rattle.claims.specs.Numbers.{no-number, in-header, four, Numbered, numbers, unsigned-numbered, signed-numbered, width-numbered, rest-numbered, whole-numbered, placed-number, untold, thirty-one}
+use Rattle.refusals.specs.Terms.{NoWidthLine, BadWidth, ZeroWidth, NoHeightLine, BadHeight, ZeroHeight, Token, Front, Second, Placed}
+use Rattle.refusals.specs.Stages.{both-ways, assoc, Quiet, quiet-mild, quiet-bind, quiet-need, quiet-fork, need-none, need-told, need-some, stage-stop, stage-bad, after-stop, after-bad, begun}
+use Rattle.refusals.specs.Integers.{side-fault}
 use Rattle.refusals.specs.Lines.{known, known-fits, front, front-fits, widths, raw, define-begins, line-is, wide, next, header-is}
 
 -- ---- the numbers that a line cannot have
@@ -37,14 +44,28 @@ pub array-mild : (name : List ℕ) → Mild (arrayLine 5 name)
 unfolding arrayLine
 array-mild name = search (milds, locals, line-laws, element-local, element-mild) depth 30 fits 3000
 
-pub ruleset quiets = (quiet-bind, quiet-need, quiet-fork, quiet-mild, milds, locals, line-laws, array-mild)
+-- d is none of an integer's four numbers
+abbrev pub other : ℕ → ℕ → Bool
+other d c = not (eqb c d)
+
+numbered-quiet : {A : Type 0} {p : Reader A} {lo hi : ℕ} {d : ℕ} → Numbered lo hi (other d) p → Quiet d p
+numbered-quiet {A} {p} {lo} {hi} {d} n = record { quiet = λ t i q k. untold n t i d q (ap not (eq-eqb d d refl)) k }
+
+module _ {d : ℕ} (c : ℕ) (w : List ℕ) (s : four (other d) c ≡ true) where
+  pub quiet-unsigned : Quiet d (unsigned c w)
+  quiet-unsigned = numbered-quiet (unsigned-numbered {lo = 1} {hi = 0} c w s)
+
+  pub quiet-signed : Quiet d (signed c w)
+  quiet-signed = numbered-quiet (signed-numbered {lo = 1} {hi = 0} c w s)
+
+pub ruleset quiets = (quiet-bind, quiet-unsigned, quiet-signed, quiet-need, quiet-fork, quiet-mild, milds, locals, line-laws, array-mild)
 
 module _ {d : ℕ} where
-  pub width-quiet : (limit : ℕ) → eqb 11 d ≡ false → eqb 21 d ≡ false → Quiet d (widthLine limit)
+  pub width-quiet : (limit : ℕ) → four (other d) 110 ≡ true → eqb 21 d ≡ false → Quiet d (widthLine limit)
   unfolding widthLine
   width-quiet limit x y = search quiets depth 40 fits 10000
 
-  pub rest-quiet : (name : List ℕ) (w h : ℕ) → eqb 13 d ≡ false → eqb 14 d ≡ false → Quiet d (rest name w h)
+  pub rest-quiet : (name : List ℕ) (w h : ℕ) → four (other d) 130 ≡ true → four (other d) 140 ≡ true → Quiet d (rest name w h)
   unfolding rest
   rest-quiet name w h x y = search quiets depth 60 fits 20000
 
@@ -75,7 +96,7 @@ module _ (text name pixels : List ℕ) where
       after : (h : Head) (e : TextLocation) (r : Result (List ℕ)) → whole (h .width) (h .height) (length pixels) text e ≡ r → told (then r (λ l e. ok (h, l) e)) ≡ unplaced c → ⊥
       after h e (ok a m) q x = let z : _≡_ {A = ℕ} 0 1 = cc in omega arith
       after h e (stop d m) q x = let z : _≡_ {A = ℕ} 0 1 = cc in omega arith
-      after h e (bad d m) q x = let z : d ≡ c = cc in l (omega (arith, unplaced-number (whole-numbered (h .width) (h .height) (length pixels)) text e d m q))
+      after h e (bad d m) q x = let z : d ≡ c = cc in l (sym z ∙ thirty-one (whole-numbered (h .width) (h .height) (length pixels)) text e d m q)
 
       go : (r : Result Head) → (told (then r (λ h e. then (whole (h .width) (h .height) (length pixels) text e) (λ l e. ok (h, l) e))) ≡ unplaced c) ↔ ((q : TextLocation) × (r ≡ bad c q))
       go (ok h e) = ((λ x. absurd (after h e (whole (h .width) (h .height) (length pixels) text e) refl x)), λ (q, x). (let z : _≡_ {A = ℕ} 0 1 = cc in absurd (omega arith)))
@@ -102,13 +123,6 @@ begun-in K S N v t (u, r, q, (a, b, o, k, d)) n = (u, r, q, (a, b, o, k, define-
 
 -- ---- what a token is not
 
-none-side : (w : List ℕ) → (number w ≡ none) ↔ NoSide w
-none-side w = ((λ q n d l. (let z : _≡_ {A = ℕ} 0 1 = cc (q, decimal→number w n d l) in omega arith)), λ g. go (number w) refl g)
-  where
-    go : (o : Option ℕ) → number w ≡ o → NoSide w → o ≡ none
-    go none q g = refl
-    go (some v) q g = let (d, l) = number→decimal w v q in absurd (g v d l)
-
 none-positive : (v : ℕ) → (positive v ≡ none) ↔ (v ≡ 0)
 unfolding positive
 none-positive zero = ((λ q. refl), λ q. refl)
@@ -125,11 +139,11 @@ zero-token (x ∷ y ∷ w) (n, (a, u), v) = absurd (n (omega (arith, a, value-up
 next-quiet : (nw : List ℕ × ℕ) → Quiet 21 (next nw)
 next-quiet nw = search (quiets, rest-quiet) depth 40 fits 10000
 
-front-numbered : (limit : ℕ) → Numbered 1 1 1 0 (front limit)
+front-numbered : (limit : ℕ) → Numbered 1 1 no-number (front limit)
 unfolding front widths raw
 front-numbered limit = search numbers depth 40 fits 10000
 
-pub wide-numbered : (p : List ℕ × List ℕ) → Numbered 2 5 11 22 (wide p >>= next)
+pub wide-numbered : (p : List ℕ × List ℕ) → Numbered 2 5 in-header (wide p >>= next)
 wide-numbered p = search (numbers, rest-numbered) depth 40 fits 10000
 
 front-quiet : (limit d : ℕ) → Quiet d (front limit)
@@ -140,16 +154,17 @@ module _ (name w : List ℕ) (t : List ℕ) (m : TextLocation) where
   abbrev sized : ℕ → Reader (List ℕ × ℕ)
   sized v = need 21 (positive v) >>= λ n. give (name, n)
 
-  -- 11: its token is no integer of 32 bits
-  wide-11 : ((q : TextLocation) × ((wide (name, w) >>= next) t m ≡ bad 11 q)) ↔ NoSide w
-  wide-11 = rw (assoc (need 11 (number w)) sized next) (both-ways (need-none (number w) (λ v. sized v >>= next) 11 t m quiet-11) (none-side w))
+  -- its token is no integer of 32 bits; d is none of the later numbers
+  wide-bad : (d : ℕ) → eqb 21 d ≡ false → four (other d) 120 ≡ true → eqb 22 d ≡ false → four (other d) 130 ≡ true → four (other d) 140 ≡ true
+      → ((q : TextLocation) × ((wide (name, w) >>= next) t m ≡ bad d q)) ↔ ((number w ≡ none) × (110 + unsignedFault (parseU32 w) ≡ d))
+  wide-bad d a b c x y = rw (assoc (unsigned 110 w) sized next) (need-told (number w) (λ v. sized v >>= next) (110 + unsignedFault (parseU32 w)) d t m quiet-d)
     where
-      quiet-11 : (v : ℕ) → Quiet 11 (sized v >>= next)
-      quiet-11 v = search (quiets, rest-quiet) depth 40 fits 10000
+      quiet-d : (v : ℕ) → Quiet d (sized v >>= next)
+      quiet-d v = search (quiets, rest-quiet) depth 40 fits 10000
 
   -- 21: it is 0
   wide-21 : ((q : TextLocation) × ((wide (name, w) >>= next) t m ≡ bad 21 q)) ↔ Decimal 0 w
-  wide-21 = rw (assoc (need 11 (number w)) sized next) (both-ways (need-some (number w) (λ v. sized v >>= next) 11 21 t m (λ q. omega arith)) ((λ (v, q, x). there v q x), λ d. (0, decimal→number w 0 d (omega arith), zero-is 0 .1 refl)))
+  wide-21 = rw (assoc (unsigned 110 w) sized next) (both-ways (need-some (number w) (λ v. sized v >>= next) (110 + unsignedFault (parseU32 w)) 21 t m (λ q. omega arith)) ((λ (v, q, x). there v q x), λ d. (0, decimal→number w 0 d (omega arith), zero-is 0 .1 refl)))
     where
       zero-is : (v : ℕ) → ((q : TextLocation) × ((sized v >>= next) t m ≡ bad 21 q)) ↔ (v ≡ 0)
       zero-is v = rw (assoc (need 21 (positive v)) (λ n. give (name, n)) next) (both-ways (need-none (positive v) (λ n. give (name, n) >>= next) 21 t m (λ n. quiet-bind (search quiets) next-quiet)) (none-positive v))
@@ -177,8 +192,11 @@ module _ (text name pixels : List ℕ) where
     λ (s, w, b, x, y). (let (e, a) = begun (Line (s, w)) text .1 b in ((s, w), e, x, a, y)),
   )))
 
-  pub row-11 : (reading text name pixels .answer ≡ unplaced 11) ↔ BadWidth limit text
-  row-11 = told-front 11 NoSide (λ q. omega arith) (λ s w m. wide-11 s w text m)
+  pub row-width : (f : Fault) → (reading text name pixels .answer ≡ unplaced (110 + faultNumber f)) ↔ BadWidth limit (Says (Bad f)) text
+  row-width Empty = told-front 111 (Says (Bad Empty)) (λ q. omega arith) (λ s w m. both-ways (wide-bad s w text m 111 refl refl refl refl refl) (side-fault 110 Empty w))
+  row-width LeadingZero = told-front 112 (Says (Bad LeadingZero)) (λ q. omega arith) (λ s w m. both-ways (wide-bad s w text m 112 refl refl refl refl refl) (side-fault 110 LeadingZero w))
+  row-width NotDigit = told-front 113 (Says (Bad NotDigit)) (λ q. omega arith) (λ s w m. both-ways (wide-bad s w text m 113 refl refl refl refl refl) (side-fault 110 NotDigit w))
+  row-width OutOfRange = told-front 114 (Says (Bad OutOfRange)) (λ q. omega arith) (λ s w m. both-ways (wide-bad s w text m 114 refl refl refl refl refl) (side-fault 110 OutOfRange w))
 
   pub row-21 : (reading text name pixels .answer ≡ unplaced 21) ↔ ZeroWidth limit text
   row-21 = both-ways (told-front 21 (Decimal 0) (λ q. omega arith) (λ s w m. wide-21 s w text m)) (
@@ -200,58 +218,54 @@ pub front-name : (limit : ℕ) (name : List ℕ) (N : Lang) (w : List ℕ) → F
 unfolding Define Symbol _·_
 front-name limit name N w (a, b, q, k, (u, v, o, l, (u1, v1, q1, k1, (u2, v2, q2, k2, m)))) = k2 .1
 
-pub first-numbered : (limit : ℕ) → Numbered 1 1 11 22 (first limit)
+pub first-numbered : (limit : ℕ) → Numbered 1 1 in-header (first limit)
 unfolding first
 first-numbered limit = search (numbers, width-numbered)
 
 -- what is made of the height line's token
 abbrev pub high : List ℕ × ℕ → List ℕ → Reader Head
-high nw w = side 12 22 w >>= λ h. rest (nw .0) (nw .1) h
+high nw w = side 120 22 w >>= λ h. rest (nw .0) (nw .1) h
 
 abbrev pub heights : List ℕ → Reader (List ℕ)
 heights name = known 2 name (ascii "_height")
 
 next-is : (nw : List ℕ × ℕ) → next nw ≡ (heights (nw .0) >>= high nw)
-next-is nw = ap (λ (p : Reader ℕ). p >>= λ h. rest (nw .0) (nw .1) h) (sym (line-is 2 (nw .0) (ascii "_height") (side 12 22))) ∙ assoc (heights (nw .0)) (side 12 22) (rest (nw .0) (nw .1))
+next-is nw = ap (λ (p : Reader ℕ). p >>= λ h. rest (nw .0) (nw .1) h) (sym (line-is 2 (nw .0) (ascii "_height") (side 120 22))) ∙ assoc (heights (nw .0)) (side 120 22) (rest (nw .0) (nw .1))
 
 pub header-next : (limit : ℕ) → header limit ≡ (first limit >>= λ nw. heights (nw .0) >>= high nw)
 unfolding header first
 header-next limit = sym (assoc (leading 1 true) (λ a. widthLine limit) next) ∙ ap (λ (f : List ℕ × ℕ → Reader Head). (leading 1 true >> widthLine limit) >>= f) (λ i nw. next-is nw i)
 
-heights-numbered : (name : List ℕ) → Numbered 2 2 1 0 (heights name)
+heights-numbered : (name : List ℕ) → Numbered 2 2 no-number (heights name)
 unfolding known raw
 heights-numbered name = search numbers depth 40 fits 10000
 
-pub high-numbered : (nw : List ℕ × ℕ) (w : List ℕ) → Numbered 3 5 12 22 (high nw w)
+pub high-numbered : (nw : List ℕ × ℕ) (w : List ℕ) → Numbered 3 5 in-header (high nw w)
 high-numbered nw w = search (numbers, rest-numbered)
 
 pub known-quiet : (c d : ℕ) (name z : List ℕ) → Quiet d (known c name z)
 unfolding known raw
 known-quiet c d name z = search quiets depth 40 fits 10000
 
-first-12 : (limit : ℕ) → Quiet 12 (first limit)
+first-quiet : (limit : ℕ) {d : ℕ} → four (other d) 110 ≡ true → eqb 21 d ≡ false → Quiet d (first limit)
 unfolding first
-first-12 limit = search (quiets, width-quiet)
-
-first-22 : (limit : ℕ) → Quiet 22 (first limit)
-unfolding first
-first-22 limit = search (quiets, width-quiet)
+first-quiet limit a b = search (quiets, width-quiet)
 
 module _ (nw : List ℕ × ℕ) (w : List ℕ) (t : List ℕ) (m : TextLocation) where
   abbrev tall : ℕ → Reader Head
   tall h = rest (nw .0) (nw .1) h
 
-  sizing : high nw w ≡ (need 12 (number w) >>= λ v. need 22 (positive v) >>= tall)
-  sizing = assoc (need 12 (number w)) (λ v. need 22 (positive v)) tall
+  sizing : high nw w ≡ (unsigned 120 w >>= λ v. need 22 (positive v) >>= tall)
+  sizing = assoc (unsigned 120 w) (λ v. need 22 (positive v)) tall
 
-  high-12 : ((q : TextLocation) × (high nw w t m ≡ bad 12 q)) ↔ NoSide w
-  high-12 = rw sizing (both-ways (need-none (number w) (λ v. need 22 (positive v) >>= tall) 12 t m quiet-12) (none-side w))
+  high-bad : (d : ℕ) → eqb 22 d ≡ false → four (other d) 130 ≡ true → four (other d) 140 ≡ true → ((q : TextLocation) × (high nw w t m ≡ bad d q)) ↔ ((number w ≡ none) × (120 + unsignedFault (parseU32 w) ≡ d))
+  high-bad d a b c = rw sizing (need-told (number w) (λ v. need 22 (positive v) >>= tall) (120 + unsignedFault (parseU32 w)) d t m quiet-d)
     where
-      quiet-12 : (v : ℕ) → Quiet 12 (need 22 (positive v) >>= tall)
-      quiet-12 v = search (quiets, rest-quiet)
+      quiet-d : (v : ℕ) → Quiet d (need 22 (positive v) >>= tall)
+      quiet-d v = search (quiets, rest-quiet)
 
   high-22 : ((q : TextLocation) × (high nw w t m ≡ bad 22 q)) ↔ Decimal 0 w
-  high-22 = rw sizing (both-ways (need-some (number w) (λ v. need 22 (positive v) >>= tall) 12 22 t m (λ q. omega arith)) ((λ (v, q, x). there v q x), λ d. (0, decimal→number w 0 d (omega arith), zero-is 0 .1 refl)))
+  high-22 = rw sizing (both-ways (need-some (number w) (λ v. need 22 (positive v) >>= tall) (120 + unsignedFault (parseU32 w)) 22 t m (λ q. omega arith)) ((λ (v, q, x). there v q x), λ d. (0, decimal→number w 0 d (omega arith), zero-is 0 .1 refl)))
     where
       zero-is : (v : ℕ) → ((q : TextLocation) × ((need 22 (positive v) >>= tall) t m ≡ bad 22 q)) ↔ (v ≡ 0)
       zero-is v = both-ways (need-none (positive v) tall 22 t m (λ h. rest-quiet (nw .0) (nw .1) h refl refl)) (none-positive v)
@@ -286,11 +300,14 @@ module _ (text name pixels : List ℕ) where
     λ (m, w, b, x, y). (let (e, a) = begun (Wide (m .name, m .width) · High (m .name, m .width) w) text .1 b in ((m .name, m .width), w, e, x, a, y)),
   )))
 
-  pub row-12 : (reading text name pixels .answer ≡ unplaced 12) ↔ BadHeight lim text
-  row-12 = told-first 12 NoSide (λ q. omega arith) (first-12 lim) (λ nw w m. high-12 nw w text m)
+  pub row-height : (f : Fault) → (reading text name pixels .answer ≡ unplaced (120 + faultNumber f)) ↔ BadHeight lim (Says (Bad f)) text
+  row-height Empty = told-first 121 (Says (Bad Empty)) (λ q. omega arith) (first-quiet lim refl refl) (λ nw w m. both-ways (high-bad nw w text m 121 refl refl refl) (side-fault 120 Empty w))
+  row-height LeadingZero = told-first 122 (Says (Bad LeadingZero)) (λ q. omega arith) (first-quiet lim refl refl) (λ nw w m. both-ways (high-bad nw w text m 122 refl refl refl) (side-fault 120 LeadingZero w))
+  row-height NotDigit = told-first 123 (Says (Bad NotDigit)) (λ q. omega arith) (first-quiet lim refl refl) (λ nw w m. both-ways (high-bad nw w text m 123 refl refl refl) (side-fault 120 NotDigit w))
+  row-height OutOfRange = told-first 124 (Says (Bad OutOfRange)) (λ q. omega arith) (first-quiet lim refl refl) (λ nw w m. both-ways (high-bad nw w text m 124 refl refl refl) (side-fault 120 OutOfRange w))
 
   pub row-22 : (reading text name pixels .answer ≡ unplaced 22) ↔ ZeroHeight lim text
-  row-22 = both-ways (told-first 22 (Decimal 0) (λ q. omega arith) (first-22 lim) (λ nw w m. high-22 nw w text m)) (
+  row-22 = both-ways (told-first 22 (Decimal 0) (λ q. omega arith) (first-quiet lim refl refl) (λ nw w m. high-22 nw w text m)) (
     (λ (m, w, b, x, d). (m, begun-in (Wide (m .name, m .width)) (Word (m .name ++ ascii "_height")) (Decimal 0) w text b d)),
     λ (m, b). (let (v, d, c) = begun-out (Wide (m .name, m .width)) (Word (m .name ++ ascii "_height")) (Decimal 0) text b in (m, v, c, zero-token v d, d)),
   )

@@ -1,9 +1,9 @@
--- The refusals of the hotspot's lines, two-sided: 3, 13 and 4, 14.
+-- The refusals of the hotspot's lines, two-sided: 3, 131 to 134 and 4, 141 to 144.
 use mathlib.Core.Path.{_≡_, refl, sym, ap, _∙_}
 use mathlib.Core.Logic.{_↔_, _⊎_, inl, inr}
-use Prim.Native.Nat.{ℕ, _≤_}
+use Prim.Native.Nat.{ℕ, _+_, _≤_}
 use native.Mathlib.Omega.{arith}
-use mathlib.Core.Option.{Option, none, some}
+use mathlib.Core.Option.{none, some}
 use mathlib.Core.Bool.{Bool, true, false}
 use mathlib.Core.List.{List, [], _∷_, _++_}
 use lib.ListN.{length}
@@ -17,21 +17,27 @@ use Rattle.text.specs.Reader.{ok, stop, bad, Reader, _>>=_}
 use Rattle.text.specs.Leaf.{give, fork, forkOf, choose}
 use Rattle.text.specs.Outcome.{unplaced}
 use Rattle.lexical.specs.Lexical.{leading}
+use Rattle.integer.specs.declared.Fault.{Fault}
+use Rattle.integer.specs.declared.Fault.the-variants.{Empty, LeadingZero, NotDigit, OutOfRange}
+use Rattle.integer.specs.declared.Signed.the-variants.{Wrong}
+use Rattle.integer.specs.Decimal.{parseI32, faultNumber, signedFault}
 use Rattle.lines.specs.Lines.{line, side, signed, widthLine}
 use Rattle.header.specs.Header.{Head, ending, hotspot, rest, header}
 use Rattle.image.specs.Reading.{reading}
 use Rattle.grammar.specs.Lang.{Lang, Word, Lit, _·_, All}
 use Rattle.grammar.specs.Grammar.{Mask, solid, Side, Coordinate, Define}
-use Rattle.grammar.specs.Tests.{integer, integer→coordinate, coordinate→integer}
+use Rattle.grammar.specs.Tests.{integer}
 use Rattle.grammar.specs.Fits.{Any, Next, At, Fits, Begins, fit-drop, fit-bind, fit-last, fit-give}
 use Rattle.grammar.specs.Pieces.{begins-any}
 use Rattle.grammar.specs.Lines.{height-fits, hot-fits}
+use Rattle.faults.specs.Terms.{SaysSigned}
 use Rattle.claims.specs.Terms.{Begun}
-use Rattle.claims.specs.Numbers.{Numbered, numbers, width-numbered, array-numbered, placed-number, unplaced-number}
-use Rattle.refusals.specs.Terms.{NoXLine, BadX, NoYLine, BadY, Token, Front, No, NoCoordinate, Placed}
-use Rattle.refusals.specs.Stages.{both-ways, assoc, given, chain, Quiet, stop-second, bad-second, need-none, at-both, at-parts, stage-stop, later-stop, later-bad, one-end, none-after, after-stop, after-bad, begun}
+use Rattle.claims.specs.Numbers.{no-number, in-header, four, Numbered, numbers, width-numbered, array-numbered, placed-number, untold}
+use Rattle.refusals.specs.Terms.{NoXLine, BadX, NoYLine, BadY, Token, Front, No, Placed}
+use Rattle.refusals.specs.Stages.{both-ways, assoc, given, chain, Quiet, stop-second, bad-second, need-told, at-both, at-parts, stage-stop, later-stop, later-bad, one-end, none-after, after-stop, after-bad, begun}
+use Rattle.refusals.specs.Integers.{coordinate-fault}
 use Rattle.refusals.specs.Lines.{known, known-fits, raw, define-begins, line-is}
-use Rattle.refusals.specs.HeaderRows.{quiets, width-quiet, told-stop, told-bad, begun-out, begun-in, first, first-fits, front-name, known-quiet}
+use Rattle.refusals.specs.HeaderRows.{quiets, other, width-quiet, told-stop, told-bad, begun-out, begun-in, first, first-fits, front-name, known-quiet}
 
 -- ---- the header up to the height line's end
 
@@ -40,7 +46,7 @@ abbrev pub Three : Type 0
 Three = (List ℕ × ℕ) × ℕ
 
 unfoldable pub second : ℕ → Reader Three
-second limit = first limit >>= λ nw. line 2 (nw .0) (ascii "_height") (side 12 22) >>= λ h. give (nw, h)
+second limit = first limit >>= λ nw. line 2 (nw .0) (ascii "_height") (side 120 22) >>= λ h. give (nw, h)
 
 abbrev pub Both : ℕ → Three → Lang
 Both limit a = Front limit (a .0 .0) (Side (a .0 .1)) · Define (Word (a .0 .0 ++ ascii "_height")) (Side (a .1))
@@ -112,32 +118,28 @@ hot-x name = known 3 name (ascii "_x_hot")
 
 -- what is made of its token
 abbrev pub left : Three → List ℕ → Reader Head
-left a w = signed 13 w >>= λ x. line 4 (a .0 .0) (ascii "_y_hot") (signed 14) >>= λ y. ending (a .0 .0) (a .0 .1) (a .1) (some (x, y))
+left a w = signed 130 w >>= λ x. line 4 (a .0 .0) (ascii "_y_hot") (signed 140) >>= λ y. ending (a .0 .0) (a .0 .1) (a .1) (some (x, y))
 
 pub hot-is : (a : Three) → hot a ≡ (hot-x (a .0 .0) >>= left a)
-hot-is a = ap (λ (p : Reader ℤ). p >>= λ x. line 4 (a .0 .0) (ascii "_y_hot") (signed 14) >>= λ y. ending (a .0 .0) (a .0 .1) (a .1) (some (x, y))) (sym (line-is 3 (a .0 .0) (ascii "_x_hot") (signed 13))) ∙ assoc (hot-x (a .0 .0)) (signed 13) _
+hot-is a = ap (λ (p : Reader ℤ). p >>= λ x. line 4 (a .0 .0) (ascii "_y_hot") (signed 140) >>= λ y. ending (a .0 .0) (a .0 .1) (a .1) (some (x, y))) (sym (line-is 3 (a .0 .0) (ascii "_x_hot") (signed 130))) ∙ assoc (hot-x (a .0 .0)) (signed 130) _
 
-hot-x-numbered : (name : List ℕ) → Numbered 3 3 1 0 (hot-x name)
+hot-x-numbered : (name : List ℕ) → Numbered 3 3 no-number (hot-x name)
 unfolding known raw
 hot-x-numbered name = search numbers depth 40 fits 10000
 
-pub left-numbered : (a : Three) (w : List ℕ) → Numbered 4 5 13 14 (left a w)
+pub left-numbered : (a : Three) (w : List ℕ) → Numbered 4 5 in-header (left a w)
 left-numbered a w = search (numbers, array-numbered) depth 40 fits 10000
 
-pub plain-numbered : (a : Three) → Numbered 5 5 1 0 (plain a)
+pub plain-numbered : (a : Three) → Numbered 5 5 no-number (plain a)
 plain-numbered a = search (numbers, array-numbered)
 
-pub second-numbered : (limit : ℕ) → Numbered 1 2 11 22 (second limit)
+pub second-numbered : (limit : ℕ) → Numbered 1 2 in-header (second limit)
 unfolding second first
 second-numbered limit = search (numbers, width-numbered) depth 40 fits 10000
 
-second-13 : (limit : ℕ) → Quiet 13 (second limit)
+second-quiet : (limit : ℕ) {d : ℕ} → four (other d) 110 ≡ true → eqb 21 d ≡ false → four (other d) 120 ≡ true → eqb 22 d ≡ false → Quiet d (second limit)
 unfolding second first
-second-13 limit = search (quiets, width-quiet) depth 40 fits 10000
-
-second-14 : (limit : ℕ) → Quiet 14 (second limit)
-unfolding second first
-second-14 limit = search (quiets, width-quiet) depth 40 fits 10000
+second-quiet limit a b x y = search (quiets, width-quiet) depth 40 fits 10000
 
 module _ (limit : ℕ) (a : Three) (t : List ℕ) (m : TextLocation) (s : All solid (a .0 .0)) where
   -- such a line begins with `#`
@@ -156,7 +158,7 @@ module _ (limit : ℕ) (a : Three) (t : List ℕ) (m : TextLocation) (s : All so
       there q x (no k) = other (unhashed a t m k)
         where
           other : (further a t m ≡ plain a t m) ⊎ ((q : TextLocation) × (further a t m ≡ stop 5 q)) → (q : TextLocation) × (hot a t m ≡ bad d q)
-          other (inl u) = absurd (omega (arith, unplaced-number (plain-numbered a) t m d q (sym u ∙ x)))
+          other (inl u) = absurd (untold (plain-numbered a) t m d q refl (sym u ∙ x))
           other (inr (p, u)) = let z : _≡_ {A = ℕ} 0 1 = cc in absurd (omega arith)
 
   -- a number before 5
@@ -175,21 +177,14 @@ module _ (limit : ℕ) (a : Three) (t : List ℕ) (m : TextLocation) (s : All so
   hot-4 : ((q : TextLocation) × (further a t m ≡ stop 4 q)) ↔ ((q : TextLocation) × (hot a t m ≡ stop 4 q))
   hot-4 = both-ways (hot-stop 4 (omega arith)) ((λ x. x .1), λ x. (let (w, e, u, y) = stop-second (hot-x (a .0 .0)) (left a) 4 t m (hot-x-numbered (a .0 .0)) (λ a b. omega arith) .0 (rw (hot-is a) at x) in (opens w e u, x)))
 
-none-coordinate : (w : List ℕ) → (integer w ≡ none) ↔ NoCoordinate w
-none-coordinate w = ((λ q z c. (let n : _≡_ {A = ℕ} 0 1 = cc (q, coordinate→integer w z c) in omega arith)), λ g. go (integer w) refl g)
-  where
-    go : (o : Option ℤ) → integer w ≡ o → NoCoordinate w → o ≡ none
-    go none q g = refl
-    go (some z) q g = absurd (g z (integer→coordinate w z q))
-
 abbrev pub after-x : Three → ℤ → Reader Head
-after-x a x = line 4 (a .0 .0) (ascii "_y_hot") (signed 14) >>= λ y. ending (a .0 .0) (a .0 .1) (a .1) (some (x, y))
+after-x a x = line 4 (a .0 .0) (ascii "_y_hot") (signed 140) >>= λ y. ending (a .0 .0) (a .0 .1) (a .1) (some (x, y))
 
-left-13 : (a : Three) (w t : List ℕ) (m : TextLocation) → ((q : TextLocation) × (left a w t m ≡ bad 13 q)) ↔ NoCoordinate w
-left-13 a w t m = both-ways (need-none (integer w) (after-x a) 13 t m quiet-13) (none-coordinate w)
+left-bad : (a : Three) (w t : List ℕ) (m : TextLocation) (d : ℕ) → four (other d) 140 ≡ true → ((q : TextLocation) × (left a w t m ≡ bad d q)) ↔ ((integer w ≡ none) × (130 + signedFault (parseI32 w) ≡ d))
+left-bad a w t m d h = need-told (integer w) (after-x a) (130 + signedFault (parseI32 w)) d t m quiet-d
   where
-    quiet-13 : (x : ℤ) → Quiet 13 (after-x a x)
-    quiet-13 x = search quiets depth 40 fits 10000
+    quiet-d : (x : ℤ) → Quiet d (after-x a x)
+    quiet-d x = search quiets depth 40 fits 10000
 
 -- ---- the line for `_y_hot`
 
@@ -198,7 +193,7 @@ abbrev pub Four : Type 0
 Four = Three × ℤ
 
 unfoldable pub third : ℕ → Reader Four
-third limit = second limit >>= λ a. line 3 (a .0 .0) (ascii "_x_hot") (signed 13) >>= λ x. give (a, x)
+third limit = second limit >>= λ a. line 3 (a .0 .0) (ascii "_x_hot") (signed 130) >>= λ x. give (a, x)
 
 abbrev pub Crossed : ℕ → Four → Lang
 Crossed limit b = Both limit (b .0) · Define (Word (b .0 .0 .0 ++ ascii "_x_hot")) (Coordinate (b .1))
@@ -207,7 +202,7 @@ pub third-fits : (limit : ℕ) (b : Four) → Fits (third limit) b (Unit {0}) (C
 unfolding third
 third-fits limit (a0, x0) =
     fit-drop (fit-bind a0 (λ a. Unit {0}) (Both limit) (λ a. Define (Word (a .0 .0 ++ ascii "_x_hot")) (Coordinate x0)) (λ a. All solid (a .0 .0)) (second-fits limit) (both-name limit) begins-any (λ a s.
-    fit-drop (fit-last x0 (λ x. Unit {0}) (λ x. Define (Word (a .0 .0 ++ ascii "_x_hot")) (Coordinate x)) (λ x. hot-fits 3 13 (a .0 .0) (ascii "x_hot") x s) (λ x. fit-give (a, x) (there a x, λ e. (ap (λ (r : Four). r .1) e, (ap (λ (r : Four). r .0) e, tt)))))))
+    fit-drop (fit-last x0 (λ x. Unit {0}) (λ x. Define (Word (a .0 .0 ++ ascii "_x_hot")) (Coordinate x)) (λ x. hot-fits 3 130 (a .0 .0) (ascii "x_hot") x s) (λ x. fit-give (a, x) (there a x, λ e. (ap (λ (r : Four). r .1) e, (ap (λ (r : Four). r .0) e, tt)))))))
   where
     there : (a : Three) (x : ℤ) → (x ≡ x0) × ((a ≡ a0) × Unit {0}) → _≡_ {A = Four} (a, x) (a0, x0)
     there a x (p, (q, u)) = rw (p, q)
@@ -220,10 +215,10 @@ hot-y name = known 4 name (ascii "_y_hot")
 
 -- what is made of its token
 abbrev pub right : Four → List ℕ → Reader Head
-right b w = signed 14 w >>= λ y. ending (b .0 .0 .0) (b .0 .0 .1) (b .0 .1) (some (b .1, y))
+right b w = signed 140 w >>= λ y. ending (b .0 .0 .0) (b .0 .0 .1) (b .0 .1) (some (b .1, y))
 
 pub after-x-is : (a : Three) (x : ℤ) → after-x a x ≡ (hot-y (a .0 .0) >>= right (a, x))
-after-x-is a x = ap (λ (p : Reader ℤ). p >>= λ y. ending (a .0 .0) (a .0 .1) (a .1) (some (x, y))) (sym (line-is 4 (a .0 .0) (ascii "_y_hot") (signed 14))) ∙ assoc (hot-y (a .0 .0)) (signed 14) _
+after-x-is a x = ap (λ (p : Reader ℤ). p >>= λ y. ending (a .0 .0) (a .0 .1) (a .1) (some (x, y))) (sym (line-is 4 (a .0 .0) (ascii "_y_hot") (signed 140))) ∙ assoc (hot-y (a .0 .0)) (signed 140) _
 
 second-hot : (limit : ℕ) → (second limit >>= hot) ≡ (second limit >>= λ a. hot-x (a .0 .0) >>= left a)
 second-hot limit = ap (λ (f : Three → Reader Head). second limit >>= f) (λ i a. hot-is a i)
@@ -232,26 +227,26 @@ pub third-hot : (limit : ℕ) → (second limit >>= hot) ≡ (third limit >>= λ
 unfolding third
 third-hot limit = sym (chain _ _ _ (λ a. chain _ _ _ (λ x. given (a, x) (λ b. hot-y (b .0 .0 .0) >>= right b) ∙ sym (after-x-is a x))))
 
-hot-y-numbered : (name : List ℕ) → Numbered 4 4 1 0 (hot-y name)
+hot-y-numbered : (name : List ℕ) → Numbered 4 4 no-number (hot-y name)
 unfolding known raw
 hot-y-numbered name = search numbers depth 40 fits 10000
 
-pub right-numbered : (b : Four) (w : List ℕ) → Numbered 5 5 14 14 (right b w)
+pub right-numbered : (b : Four) (w : List ℕ) → Numbered 5 5 in-header (right b w)
 right-numbered b w = search (numbers, array-numbered)
 
-pub third-numbered : (limit : ℕ) → Numbered 1 3 11 22 (third limit)
+pub third-numbered : (limit : ℕ) → Numbered 1 3 in-header (third limit)
 unfolding third second first
 third-numbered limit = search (numbers, width-numbered) depth 40 fits 10000
 
-third-14 : (limit : ℕ) → Quiet 14 (third limit)
+third-quiet : (limit : ℕ) {d : ℕ} → four (other d) 110 ≡ true → eqb 21 d ≡ false → four (other d) 120 ≡ true → eqb 22 d ≡ false → four (other d) 130 ≡ true → Quiet d (third limit)
 unfolding third second first
-third-14 limit = search (quiets, width-quiet) depth 40 fits 10000
+third-quiet limit a b x y z = search (quiets, width-quiet) depth 40 fits 10000
 
-right-14 : (b : Four) (w t : List ℕ) (m : TextLocation) → ((q : TextLocation) × (right b w t m ≡ bad 14 q)) ↔ NoCoordinate w
-right-14 b w t m = both-ways (need-none (integer w) (λ y. ending (b .0 .0 .0) (b .0 .0 .1) (b .0 .1) (some (b .1, y))) 14 t m quiet-14) (none-coordinate w)
+right-bad : (b : Four) (w t : List ℕ) (m : TextLocation) (d : ℕ) → ((q : TextLocation) × (right b w t m ≡ bad d q)) ↔ ((integer w ≡ none) × (140 + signedFault (parseI32 w) ≡ d))
+right-bad b w t m d = need-told (integer w) (λ y. ending (b .0 .0 .0) (b .0 .0 .1) (b .0 .1) (some (b .1, y))) (140 + signedFault (parseI32 w)) d t m quiet-d
   where
-    quiet-14 : (y : ℤ) → Quiet 14 (ending (b .0 .0 .0) (b .0 .0 .1) (b .0 .1) (some (b .1, y)))
-    quiet-14 y = search quiets
+    quiet-d : (y : ℤ) → Quiet d (ending (b .0 .0 .0) (b .0 .0 .1) (b .0 .1) (some (b .1, y)))
+    quiet-d y = search quiets
 
 -- ---- the rows
 
@@ -284,11 +279,18 @@ module _ (text name pixels : List ℕ) where
   abbrev LineY : Four → List ℕ → Lang
   LineY b w = Define (Word (b .0 .0 .0 ++ ascii "_y_hot")) (Word w)
 
-  pub row-13 : (reading text name pixels .answer ≡ unplaced 13) ↔ BadX lim text
-  row-13 = both-ways (told-bad text name pixels 13 (λ q. omega arith)) (rw (header-second lim) (both-ways (swap-bad 13 (second-13 lim)) (rw (second-hot lim) (both-ways (after-bad (second lim) (λ a. hot-x (a .0 .0)) left (Both lim) (λ a. All solid (a .0 .0)) Token LineX (second-fits lim) (both-name lim) (λ a s w. known-fits 3 (a .0 .0) (ascii "x_hot") w s) 3 (λ a. hot-x-numbered (a .0 .0)) text start 13 NoCoordinate (second-13 lim) (λ a. known-quiet 3 13 (a .0 .0) (ascii "_x_hot")) (λ a w m. left-13 a w text m)) (
+  told-x : (d : ℕ) (Q : Lang) → (d ≡ 31 → ⊥) → Quiet d (second lim) → ((a : Three) (w : List ℕ) (m : TextLocation) → ((q : TextLocation) × (left a w text m ≡ bad d q)) ↔ Q w)
+      → (reading text name pixels .answer ≡ unplaced d) ↔ BadX lim Q text
+  told-x d Q o n k = both-ways (told-bad text name pixels d o) (rw (header-second lim) (both-ways (swap-bad d n) (rw (second-hot lim) (both-ways (after-bad (second lim) (λ a. hot-x (a .0 .0)) left (Both lim) (λ a. All solid (a .0 .0)) Token LineX (second-fits lim) (both-name lim) (λ a s w. known-fits 3 (a .0 .0) (ascii "x_hot") w s) 3 (λ a. hot-x-numbered (a .0 .0)) text start d Q n (λ a. known-quiet 3 d (a .0 .0) (ascii "_x_hot")) k) (
     (λ (a, w, e, x, l, y). (maskOf a, w, begun (Both lim a · LineX a w) text .0 (e, l), x, y)),
     λ (m, w, b, x, y). (let (e, l) = begun (Both lim (threeOf m) · LineX (threeOf m) w) text .1 b in (threeOf m, w, e, x, l, y)),
   )))))
+
+  pub row-x : (f : Fault) → (reading text name pixels .answer ≡ unplaced (130 + faultNumber f)) ↔ BadX lim (SaysSigned (Wrong f)) text
+  row-x Empty = told-x 131 (SaysSigned (Wrong Empty)) (λ q. omega arith) (second-quiet lim refl refl refl refl) (λ a w m. both-ways (left-bad a w text m 131 refl) (coordinate-fault 130 Empty w))
+  row-x LeadingZero = told-x 132 (SaysSigned (Wrong LeadingZero)) (λ q. omega arith) (second-quiet lim refl refl refl refl) (λ a w m. both-ways (left-bad a w text m 132 refl) (coordinate-fault 130 LeadingZero w))
+  row-x NotDigit = told-x 133 (SaysSigned (Wrong NotDigit)) (λ q. omega arith) (second-quiet lim refl refl refl refl) (λ a w m. both-ways (left-bad a w text m 133 refl) (coordinate-fault 130 NotDigit w))
+  row-x OutOfRange = told-x 134 (SaysSigned (Wrong OutOfRange)) (λ q. omega arith) (second-quiet lim refl refl refl refl) (λ a w m. both-ways (left-bad a w text m 134 refl) (coordinate-fault 130 OutOfRange w))
 
   pub row-4 : Placed (reading text name pixels .answer) 4 ↔ NoYLine lim text
   row-4 = both-ways (told-stop text name pixels 4 (omega arith)) (rw (header-second lim) (both-ways swap-4 (rw (third-hot lim) (both-ways (after-stop (third lim) (λ b. hot-y (b .0 .0 .0)) right (Crossed lim) (λ b. All solid (b .0 .0 .0)) Token LineY (third-fits lim) (crossed-name lim) (λ b s w. known-fits 4 (b .0 .0 .0) (ascii "y_hot") w s) 4 (λ b. hot-y-numbered (b .0 .0 .0)) text start (third-numbered lim) (λ a b. omega arith) right-numbered (λ a b. omega arith)) (
@@ -296,11 +298,18 @@ module _ (text name pixels : List ℕ) where
     λ (m, x, d, g). ((threeOf m, x), begun (Crossed lim (threeOf m, x)) text .1 d, λ v e y l. g (begun-in (Crossed lim (threeOf m, x)) (Word (m .name ++ ascii "_y_hot")) Token v text (begun (Crossed lim (threeOf m, x) · LineY (threeOf m, x) v) text .0 (e, l)) y)),
   )))))
 
-  pub row-14 : (reading text name pixels .answer ≡ unplaced 14) ↔ BadY lim text
-  row-14 = both-ways (told-bad text name pixels 14 (λ q. omega arith)) (rw (header-second lim) (both-ways (swap-bad 14 (second-14 lim)) (rw (third-hot lim) (both-ways (after-bad (third lim) (λ b. hot-y (b .0 .0 .0)) right (Crossed lim) (λ b. All solid (b .0 .0 .0)) Token LineY (third-fits lim) (crossed-name lim) (λ b s w. known-fits 4 (b .0 .0 .0) (ascii "y_hot") w s) 4 (λ b. hot-y-numbered (b .0 .0 .0)) text start 14 NoCoordinate (third-14 lim) (λ b. known-quiet 4 14 (b .0 .0 .0) (ascii "_y_hot")) (λ b w m. right-14 b w text m)) (
+  told-y : (d : ℕ) (Q : Lang) → (d ≡ 31 → ⊥) → Quiet d (second lim) → Quiet d (third lim) → ((b : Four) (w : List ℕ) (m : TextLocation) → ((q : TextLocation) × (right b w text m ≡ bad d q)) ↔ Q w)
+      → (reading text name pixels .answer ≡ unplaced d) ↔ BadY lim Q text
+  told-y d Q o n n′ k = both-ways (told-bad text name pixels d o) (rw (header-second lim) (both-ways (swap-bad d n) (rw (third-hot lim) (both-ways (after-bad (third lim) (λ b. hot-y (b .0 .0 .0)) right (Crossed lim) (λ b. All solid (b .0 .0 .0)) Token LineY (third-fits lim) (crossed-name lim) (λ b s w. known-fits 4 (b .0 .0 .0) (ascii "y_hot") w s) 4 (λ b. hot-y-numbered (b .0 .0 .0)) text start d Q n′ (λ b. known-quiet 4 d (b .0 .0 .0) (ascii "_y_hot")) k) (
     (λ (b, w, e, x, l, y). (maskOf (b .0), b .1, w, begun (Crossed lim b · LineY b w) text .0 (e, l), x, y)),
     λ (m, x, w, d, z, y). (let (e, l) = begun (Crossed lim (threeOf m, x) · LineY (threeOf m, x) w) text .1 d in ((threeOf m, x), w, e, z, l, y)),
   )))))
+
+  pub row-y : (f : Fault) → (reading text name pixels .answer ≡ unplaced (140 + faultNumber f)) ↔ BadY lim (SaysSigned (Wrong f)) text
+  row-y Empty = told-y 141 (SaysSigned (Wrong Empty)) (λ q. omega arith) (second-quiet lim refl refl refl refl) (third-quiet lim refl refl refl refl refl) (λ b w m. both-ways (right-bad b w text m 141) (coordinate-fault 140 Empty w))
+  row-y LeadingZero = told-y 142 (SaysSigned (Wrong LeadingZero)) (λ q. omega arith) (second-quiet lim refl refl refl refl) (third-quiet lim refl refl refl refl refl) (λ b w m. both-ways (right-bad b w text m 142) (coordinate-fault 140 LeadingZero w))
+  row-y NotDigit = told-y 143 (SaysSigned (Wrong NotDigit)) (λ q. omega arith) (second-quiet lim refl refl refl refl) (third-quiet lim refl refl refl refl refl) (λ b w m. both-ways (right-bad b w text m 143) (coordinate-fault 140 NotDigit w))
+  row-y OutOfRange = told-y 144 (SaysSigned (Wrong OutOfRange)) (λ q. omega arith) (second-quiet lim refl refl refl refl) (third-quiet lim refl refl refl refl refl) (λ b w m. both-ways (right-bad b w text m 144) (coordinate-fault 140 OutOfRange w))
 
   -- a `#` stands after the height line
   pub hash : (a : Three) (m : TextLocation) → At (Both lim a) Any text start m → Next 35 (restAt text m) ↔ Begun (Both lim a · Lit "#") text

@@ -1,6 +1,7 @@
 -- The definitions and laws of `refusals`, by module.
 pub mod Terms
 pub mod Stages
+pub mod Integers
 pub mod Lines
 pub mod HeaderRows
 pub mod HotspotRows

@@ -139,7 +139,7 @@ line-is c name z f = chain _ _ _ (λ a. chain _ _ _ (λ b. chain _ _ _ (λ d. ch
 
 -- what is made of the width line's
 abbrev pub wide : List ℕ × List ℕ → Reader (List ℕ × ℕ)
-wide p = unsigned 11 (p .1) >>= λ v. need 21 (positive v) >>= λ n. give (p .0, n)
+wide p = unsigned 110 (p .1) >>= λ v. need 21 (positive v) >>= λ n. give (p .0, n)
 
 pub width-is : (limit : ℕ) → (widths limit >>= wide) ≡ widthLine limit
 unfolding widths widthLine
@@ -147,7 +147,7 @@ width-is limit = chain _ _ _ (λ a. chain _ _ _ (λ b. chain _ _ _ (λ s. chain 
 
 -- after the width line
 abbrev pub next : List ℕ × ℕ → Reader Head
-next nw = line 2 (nw .0) (ascii "_height") (side 12 22) >>= λ h. rest (nw .0) (nw .1) h
+next nw = line 2 (nw .0) (ascii "_height") (side 120 22) >>= λ h. rest (nw .0) (nw .1) h
 
 pub header-is : (limit : ℕ) → header limit ≡ (front limit >>= λ p. wide p >>= next)
 unfolding header front

@@ -1,5 +1,5 @@
 -- THE CLAIMS ON REFUSALS: which number comes, of a text and of a lent decoder, and what is left in the decoder and in the name buffer. To believe
--- them, read the grammar (Lang, Grammar), the words (Terms here and in claims) and this file. No reader stands in a statement but `reading` and
+-- them, read the grammar (Lang, Grammar), the words (Terms here, in claims and in faults) and this file. No reader stands in a statement but `reading` and
 -- `stepOf`, which the contracts of the code cite. Every proof below is a citation. Where a refusal is told: places.
 use mathlib.Core.Path.{_≡_}
 use mathlib.Core.Logic.{_↔_}
@@ -10,12 +10,14 @@ use lib.ListN.{length, take}
 use Rattle.text.specs.declared.TextLocation.{TextLocation}
 use Rattle.text.specs.Place.{byteOf, past}
 use Rattle.text.specs.Outcome.{Outcome, accepted, refused, unplaced}
+use Rattle.integer.specs.declared.Fault.the-variants.{Empty, LeadingZero, NotDigit, OutOfRange}
 use Rattle.header.specs.Header.{Head}
 use Rattle.decoder.specs.declared.XbmStreamDecoder.{XbmStreamDecoder}
 use Rattle.decoder.specs.Step.{Step, stepOf}
 use Rattle.image.specs.Reading.{reading}
 use Rattle.grammar.specs.Lang.{_·_}
 use Rattle.grammar.specs.Grammar.{Loose, Closing}
+use Rattle.faults.specs.Terms.{Nothing, ZeroLed, Marred, Above, PastSign, Beyond}
 use Rattle.claims.specs.Terms.{Begun, Mismatched, over, Aligned}
 use Rattle.claims.specs.Mismatch
 use Rattle.refusals.specs.Terms.{Placed, InTable, NoWidthLine, BadWidth, ZeroWidth, NoHeightLine, BadHeight, ZeroHeight, NoXLine, BadX, NoYLine, BadY, NoArrayLine, NoDataByte, NoClosing, MoreBehind, No, Foreign, sizeOf, ahead, moved, Spent, Item, Stores}
@@ -28,18 +30,31 @@ use Rattle.refusals.specs.Calls
 use Rattle.refusals.specs.CallRows
 use Rattle.refusals.specs.Stored
 
--- 1. NUMBERS. Document 01's table of refusals: each number comes exactly if all before it stands at the text's start and its own condition holds.
+-- 1. NUMBERS. Document 01's table of refusals, with an integer's four faults: each number comes exactly if all before it stands at the text's start
+-- and its own condition holds.
 pub record Refusals (text name pixels : List ℕ) (a : Outcome Head) : Type 0 where
   pub n1 : Placed a 1 ↔ NoWidthLine (length name) text
-  pub n11 : (a ≡ unplaced 11) ↔ BadWidth (length name) text
+  pub n111 : (a ≡ unplaced 111) ↔ BadWidth (length name) Nothing text
+  pub n112 : (a ≡ unplaced 112) ↔ BadWidth (length name) ZeroLed text
+  pub n113 : (a ≡ unplaced 113) ↔ BadWidth (length name) Marred text
+  pub n114 : (a ≡ unplaced 114) ↔ BadWidth (length name) (Above 4294967295) text
   pub n21 : (a ≡ unplaced 21) ↔ ZeroWidth (length name) text
   pub n2 : Placed a 2 ↔ NoHeightLine (length name) text
-  pub n12 : (a ≡ unplaced 12) ↔ BadHeight (length name) text
+  pub n121 : (a ≡ unplaced 121) ↔ BadHeight (length name) Nothing text
+  pub n122 : (a ≡ unplaced 122) ↔ BadHeight (length name) ZeroLed text
+  pub n123 : (a ≡ unplaced 123) ↔ BadHeight (length name) Marred text
+  pub n124 : (a ≡ unplaced 124) ↔ BadHeight (length name) (Above 4294967295) text
   pub n22 : (a ≡ unplaced 22) ↔ ZeroHeight (length name) text
   pub n3 : Placed a 3 ↔ NoXLine (length name) text
-  pub n13 : (a ≡ unplaced 13) ↔ BadX (length name) text
+  pub n131 : (a ≡ unplaced 131) ↔ BadX (length name) (PastSign Nothing) text
+  pub n132 : (a ≡ unplaced 132) ↔ BadX (length name) (PastSign ZeroLed) text
+  pub n133 : (a ≡ unplaced 133) ↔ BadX (length name) (PastSign Marred) text
+  pub n134 : (a ≡ unplaced 134) ↔ BadX (length name) Beyond text
   pub n4 : Placed a 4 ↔ NoYLine (length name) text
-  pub n14 : (a ≡ unplaced 14) ↔ BadY (length name) text
+  pub n141 : (a ≡ unplaced 141) ↔ BadY (length name) (PastSign Nothing) text
+  pub n142 : (a ≡ unplaced 142) ↔ BadY (length name) (PastSign ZeroLed) text
+  pub n143 : (a ≡ unplaced 143) ↔ BadY (length name) (PastSign Marred) text
+  pub n144 : (a ≡ unplaced 144) ↔ BadY (length name) Beyond text
   pub n5 : Placed a 5 ↔ NoArrayLine (length name) text
   pub n6 : Placed a 6 ↔ NoDataByte (length name) text pixels
   pub n7 : Placed a 7 ↔ NoClosing (length name) text pixels
@@ -49,15 +64,27 @@ pub record Refusals (text name pixels : List ℕ) (a : Outcome Head) : Type 0 wh
 pub numbers : (text name pixels : List ℕ) → Refusals text name pixels (reading text name pixels .answer)
 numbers t name pixels = record {
   n1 = HeaderRows.row-1 t name pixels;
-  n11 = HeaderRows.row-11 t name pixels;
+  n111 = HeaderRows.row-width t name pixels Empty;
+  n112 = HeaderRows.row-width t name pixels LeadingZero;
+  n113 = HeaderRows.row-width t name pixels NotDigit;
+  n114 = HeaderRows.row-width t name pixels OutOfRange;
   n21 = HeaderRows.row-21 t name pixels;
   n2 = HeaderRows.row-2 t name pixels;
-  n12 = HeaderRows.row-12 t name pixels;
+  n121 = HeaderRows.row-height t name pixels Empty;
+  n122 = HeaderRows.row-height t name pixels LeadingZero;
+  n123 = HeaderRows.row-height t name pixels NotDigit;
+  n124 = HeaderRows.row-height t name pixels OutOfRange;
   n22 = HeaderRows.row-22 t name pixels;
   n3 = HotspotRows.row-3 t name pixels;
-  n13 = HotspotRows.row-13 t name pixels;
+  n131 = HotspotRows.row-x t name pixels Empty;
+  n132 = HotspotRows.row-x t name pixels LeadingZero;
+  n133 = HotspotRows.row-x t name pixels NotDigit;
+  n134 = HotspotRows.row-x t name pixels OutOfRange;
   n4 = HotspotRows.row-4 t name pixels;
-  n14 = HotspotRows.row-14 t name pixels;
+  n141 = HotspotRows.row-y t name pixels Empty;
+  n142 = HotspotRows.row-y t name pixels LeadingZero;
+  n143 = HotspotRows.row-y t name pixels NotDigit;
+  n144 = HotspotRows.row-y t name pixels OutOfRange;
   n5 = ArrayRow.row-5 t name pixels;
   n6 = DataRows.row-6 t name pixels;
   n7 = DataRows.row-7 t name pixels;

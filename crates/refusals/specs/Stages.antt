@@ -17,7 +17,7 @@ use Rattle.grammar.specs.Bind.{past-append, move}
 use Rattle.grammar.specs.Fits.{Any, At, Fits}
 use Rattle.grammar.specs.Exact.{start-rest}
 use Rattle.claims.specs.Terms.{Begun}
-use Rattle.claims.specs.Numbers.{Numbered, placed-number, unplaced-number}
+use Rattle.claims.specs.Numbers.{no-number, Numbered, placed-number, untold}
 
 pub both-ways : {X Y Z : Type 0} → (X ↔ Y) → (Y ↔ Z) → X ↔ Z
 both-ways (a, b) (c, d) = ((λ x. c (a x)), λ z. b (d z))
@@ -80,9 +80,9 @@ module _ {c : ℕ} where
 
 module _ {A B : Type 0} (p : Reader A) (f : A → Reader B) (c : ℕ) (t : List ℕ) (i : TextLocation) where
   -- the second has not this number: the first's
-  pub stop-first : {lo hi x y : ℕ} → ((a : A) → Numbered lo hi x y (f a)) → (lo ≤ c → c ≤ hi → ⊥) → (q : TextLocation) → ((p >>= f) t i ≡ stop c q) ↔ (p t i ≡ stop c q)
+  pub stop-first : {lo hi : ℕ} {bare : ℕ → Bool} → ((a : A) → Numbered lo hi bare (f a)) → (lo ≤ c → c ≤ hi → ⊥) → (q : TextLocation) → ((p >>= f) t i ≡ stop c q) ↔ (p t i ≡ stop c q)
   unfolding _>>=_
-  stop-first {lo} {hi} {x} {y} n o q = go (p t i)
+  stop-first {lo} {hi} {bare} n o q = go (p t i)
     where
       go : (r : Result A) → (then r (λ a e. f a t e) ≡ stop c q) ↔ (r ≡ stop c q)
       go (ok a e) = ((λ k. (let (u, v) = placed-number (n a) t e c q k in absurd (o u v))), λ k. (let z : _≡_ {A = ℕ} 0 1 = cc in absurd (omega arith)))
@@ -90,10 +90,10 @@ module _ {A B : Type 0} (p : Reader A) (f : A → Reader B) (c : ℕ) (t : List 
       go (bad d e) = ((λ k. (let z : _≡_ {A = ℕ} 0 1 = cc in absurd (omega arith))), λ k. (let z : _≡_ {A = ℕ} 0 1 = cc in absurd (omega arith)))
 
   -- the first has not: the second's, and the first is done
-  pub stop-second : {lo hi x y : ℕ} → Numbered lo hi x y p → (lo ≤ c → c ≤ hi → ⊥)
+  pub stop-second : {lo hi : ℕ} {bare : ℕ → Bool} → Numbered lo hi bare p → (lo ≤ c → c ≤ hi → ⊥)
       → ((q : TextLocation) × ((p >>= f) t i ≡ stop c q)) ↔ ((a : A) × (m : TextLocation) × (p t i ≡ ok a m) × ((q : TextLocation) × (f a t m ≡ stop c q)))
   unfolding _>>=_
-  stop-second {lo} {hi} {x} {y} n o = ((λ (q, k). go q (p t i) refl k), λ (a, m, u, (q, k)). (q, rw u k))
+  stop-second {lo} {hi} {bare} n o = ((λ (q, k). go q (p t i) refl k), λ (a, m, u, (q, k)). (q, rw u k))
     where
       go : (q : TextLocation) (r : Result A) → p t i ≡ r → then r (λ a e. f a t e) ≡ stop c q → (a : A) × (m : TextLocation) × (p t i ≡ ok a m) × ((q : TextLocation) × (f a t m ≡ stop c q))
       go q (ok a e) u k = (a, e, u, (q, k))
@@ -110,13 +110,13 @@ module _ {A B : Type 0} (p : Reader A) (f : A → Reader B) (c : ℕ) (t : List 
       go q (bad d e) u k = let z : d ≡ c = cc in absurd (n .quiet t i e (u ∙ ap (λ (k : ℕ). bad k e) z))
 
 -- it has this number alone, and only with a place: refused exactly where it gives nothing
-pub alone : {A : Type 0} {p : Reader A} (c : ℕ) (t : List ℕ) (i : TextLocation) → Numbered c c 1 0 p → ((q : TextLocation) × (p t i ≡ stop c q)) ↔ ((a : A) (e : TextLocation) → p t i ≡ ok a e → ⊥)
+pub alone : {A : Type 0} {p : Reader A} (c : ℕ) (t : List ℕ) (i : TextLocation) → Numbered c c no-number p → ((q : TextLocation) × (p t i ≡ stop c q)) ↔ ((a : A) (e : TextLocation) → p t i ≡ ok a e → ⊥)
 alone {A} {p} c t i n = ((λ (q, k) a e u. (let z : _≡_ {A = ℕ} 0 1 = cc in omega arith)), λ g. go (p t i) refl g)
   where
     go : (r : Result A) → p t i ≡ r → ((a : A) (e : TextLocation) → p t i ≡ ok a e → ⊥) → (q : TextLocation) × (p t i ≡ stop c q)
     go (ok a e) u g = absurd (g a e u)
     go (stop d e) u g = let z : d ≡ c = omega (arith, placed-number n t i d e u) in (e, u ∙ ap (λ (k : ℕ). stop k e) z)
-    go (bad d e) u g = absurd (omega (arith, unplaced-number n t i d e u))
+    go (bad d e) u g = absurd (untold n t i d e refl u)
 
 -- ---- a test without a place
 
@@ -127,6 +127,15 @@ need-none {A} {B} o f c t i n = go o
     go : (o : Option A) → ((q : TextLocation) × (then (need c o t i) (λ a e. f a t e) ≡ bad c q)) ↔ (o ≡ none)
     go none = ((λ q. refl), λ q. (i, refl))
     go (some a) = ((λ (q, u). absurd (n a .quiet t i q u)), λ q. (let z : _≡_ {A = ℕ} 0 1 = cc in absurd (omega arith)))
+
+-- with whatever number it has
+pub need-told : {A B : Type 0} (o : Option A) (f : A → Reader B) (d c : ℕ) (t : List ℕ) (i : TextLocation) → ((a : A) → Quiet c (f a)) → ((q : TextLocation) × ((need d o >>= f) t i ≡ bad c q)) ↔ ((o ≡ none) × (d ≡ c))
+unfolding _>>=_ need
+need-told {A} {B} o f d c t i n = go o
+  where
+    go : (o : Option A) → ((q : TextLocation) × (then (need d o t i) (λ a e. f a t e) ≡ bad c q)) ↔ ((o ≡ none) × (d ≡ c))
+    go none = ((λ (q, u). (refl, cc)), λ (u, v). (i, rw v))
+    go (some a) = ((λ (q, u). absurd (n a .quiet t i q u)), λ (u, v). (let z : _≡_ {A = ℕ} 0 1 = cc in absurd (omega arith)))
 
 pub need-some : {A B : Type 0} (o : Option A) (f : A → Reader B) (d c : ℕ) (t : List ℕ) (i : TextLocation) → (d ≡ c → ⊥) → ((q : TextLocation) × ((need d o >>= f) t i ≡ bad c q)) ↔ ((a : A) × (o ≡ some a) × ((q : TextLocation) × (f a t i ≡ bad c q)))
 unfolding _>>=_ need
@@ -155,9 +164,9 @@ at-parts K L t i e (w, r, d, (u, v, q, k, l), a, o) =
 pub read-at : {B : Type 0} {raw : Reader B} {b : B} {T : Type 0} {L : Lang} → Fits raw b T L Any → (t : List ℕ) (i e : TextLocation) → (raw t i ≡ ok b e) ↔ (T × At L Any t i e)
 read-at {b = b} h t i e = ((λ q. h .to t i e q), λ (x, (w, r, d, l, f, o)). h .from t i w r x d l f ∙ ap (λ (n : TextLocation). ok b n) (sym o))
 
-module _ {B C : Type 0} (raw : Reader B) (next : B → Reader C) (T : B → Type 0) (L : B → Lang) (fits : (b : B) → Fits raw b (T b) (L b) Any) (c : ℕ) (n : Numbered c c 1 0 raw) (t : List ℕ) (i : TextLocation) where
+module _ {B C : Type 0} (raw : Reader B) (next : B → Reader C) (T : B → Type 0) (L : B → Lang) (fits : (b : B) → Fits raw b (T b) (L b) Any) (c : ℕ) (n : Numbered c c no-number raw) (t : List ℕ) (i : TextLocation) where
   -- its own number: no such word stands there
-  pub stage-stop : {lo hi x y : ℕ} → ((b : B) → Numbered lo hi x y (next b)) → (lo ≤ c → c ≤ hi → ⊥) → ((q : TextLocation) × ((raw >>= next) t i ≡ stop c q)) ↔ ((b : B) (e : TextLocation) → T b → At (L b) Any t i e → ⊥)
+  pub stage-stop : {lo hi : ℕ} {bare : ℕ → Bool} → ((b : B) → Numbered lo hi bare (next b)) → (lo ≤ c → c ≤ hi → ⊥) → ((q : TextLocation) × ((raw >>= next) t i ≡ stop c q)) ↔ ((b : B) (e : TextLocation) → T b → At (L b) Any t i e → ⊥)
   stage-stop k o = (
     (λ (q, h) b e x l. alone c t i n .0 (q, stop-first raw next c t i k o q .0 h) b e (read-at (fits b) t i e .1 (x, l))),
     λ g. (let (q, h) = alone c t i n .1 (λ b e u. (let (x, l) = read-at (fits b) t i e .0 u in g b e x l)) in (q, stop-first raw next c t i k o q .1 h)),
@@ -173,7 +182,7 @@ module _ {B C : Type 0} (raw : Reader B) (next : B → Reader C) (T : B → Type
 -- ---- after a reader that gives a exactly on the words of K a
 
 module _ {A B : Type 0} (pre : Reader A) (f : A → Reader B) (K : A → Lang) (fits : (a : A) → Fits pre a (Unit {0}) (K a) Any) (c : ℕ) (t : List ℕ) (i : TextLocation) where
-  pub later-stop : {lo hi x y : ℕ} → Numbered lo hi x y pre → (lo ≤ c → c ≤ hi → ⊥) → ((q : TextLocation) × ((pre >>= f) t i ≡ stop c q)) ↔ ((a : A) × (m : TextLocation) × At (K a) Any t i m × ((q : TextLocation) × (f a t m ≡ stop c q)))
+  pub later-stop : {lo hi : ℕ} {bare : ℕ → Bool} → Numbered lo hi bare pre → (lo ≤ c → c ≤ hi → ⊥) → ((q : TextLocation) × ((pre >>= f) t i ≡ stop c q)) ↔ ((a : A) × (m : TextLocation) × At (K a) Any t i m × ((q : TextLocation) × (f a t m ≡ stop c q)))
   later-stop n o = (
     (λ x. (let (a, m, u, z) = stop-second pre f c t i n o .0 x in (a, m, read-at (fits a) t i m .0 u .1, z))),
     λ (a, m, l, z). stop-second pre f c t i n o .1 (a, m, read-at (fits a) t i m .1 (tt, l), z),
@@ -192,7 +201,7 @@ one-end {A} {p} {a} {K} h t i m n k l =
     let v : p t i ≡ ok a n = read-at h t i n .1 (tt, l) in cc
 
 -- then a line that gives b, if T b, exactly on the words of L a b, with a number of its own; and what is made of b
-module _ {A B C : Type 0} (pre : Reader A) (line : A → Reader B) (after : A → B → Reader C) (K : A → Lang) (H : A → Type 0) (T : B → Type 0) (L : A → B → Lang) (fits : (a : A) → Fits pre a (Unit {0}) (K a) Any) (holds : (a : A) (w : List ℕ) → K a w → H a) (fit : (a : A) → H a → (b : B) → Fits (line a) b (T b) (L a b) Any) (c : ℕ) (n : (a : A) → Numbered c c 1 0 (line a)) (t : List ℕ) (i : TextLocation) where
+module _ {A B C : Type 0} (pre : Reader A) (line : A → Reader B) (after : A → B → Reader C) (K : A → Lang) (H : A → Type 0) (T : B → Type 0) (L : A → B → Lang) (fits : (a : A) → Fits pre a (Unit {0}) (K a) Any) (holds : (a : A) (w : List ℕ) → K a w → H a) (fit : (a : A) → H a → (b : B) → Fits (line a) b (T b) (L a b) Any) (c : ℕ) (n : (a : A) → Numbered c c no-number (line a)) (t : List ℕ) (i : TextLocation) where
   -- no such line after that
   pub none-after : (a : A) (m : TextLocation) → At (K a) Any t i m → ((b : B) (e : TextLocation) → T b → At (L a b) Any t m e → ⊥) ↔ ((b : B) (e : TextLocation) → T b → At (K a · L a b) Any t i e → ⊥)
   none-after a m k = (
@@ -200,7 +209,7 @@ module _ {A B C : Type 0} (pre : Reader A) (line : A → Reader B) (after : A �
     λ g b e x l. g b e x (at-both (K a) (L a b) t i m e k l),
   )
 
-  pub after-stop : {lo hi x y : ℕ} → Numbered lo hi x y pre → (lo ≤ c → c ≤ hi → ⊥) → {lo′ hi′ x′ y′ : ℕ} → ((a : A) (b : B) → Numbered lo′ hi′ x′ y′ (after a b)) → (lo′ ≤ c → c ≤ hi′ → ⊥)
+  pub after-stop : {lo hi : ℕ} {bare : ℕ → Bool} → Numbered lo hi bare pre → (lo ≤ c → c ≤ hi → ⊥) → {lo′ hi′ : ℕ} {bare′ : ℕ → Bool} → ((a : A) (b : B) → Numbered lo′ hi′ bare′ (after a b)) → (lo′ ≤ c → c ≤ hi′ → ⊥)
       → ((q : TextLocation) × ((pre >>= λ a. line a >>= after a) t i ≡ stop c q)) ↔ ((a : A) × ((e : TextLocation) × At (K a) Any t i e) × ((b : B) (e : TextLocation) → T b → At (K a · L a b) Any t i e → ⊥))
   after-stop np o na u = both-ways (later-stop pre (λ a. line a >>= after a) K fits c t i np o) (
     (λ (a, m, k, x). (a, (m, k), none-after a m k .0 (stage-stop (line a) (after a) T (L a) (fit a (holds a (k .0) (k .3))) c (n a) t m (na a) u .0 x))),

@@ -14,7 +14,7 @@ use Rattle.header.specs.Header.{Head}
 use Rattle.decoder.specs.declared.XbmStreamDecoder.{XbmStreamDecoder}
 use Rattle.grammar.specs.Lang.{Lang, Word, Lit, _·_, All, Star}
 use Rattle.grammar.specs.Grammar.{Mask, blank, solid, Loose, Decimal, Side, Coordinate, Skipped, Define, Symbol, Header, Byte, Data, Closing, Format}
-use Rattle.claims.specs.Terms.{Begun, W, rows, Opening}
+use Rattle.claims.specs.Terms.{Begun, W, rows, HeaderNumber, Opening}
 
 -- ---- answers
 
@@ -22,11 +22,11 @@ use Rattle.claims.specs.Terms.{Begun, W, rows, Opening}
 abbrev pub Placed : {A : Type 0} → Outcome A → ℕ → Type 0
 Placed a c = (p : TextLocation) × (a ≡ refused c p)
 
--- the numbers of document 01's table that a reading may tell: 1 to 8 with a place; the others without one
+-- the numbers that a reading may tell: 1 to 8 with a place; the header's others, and 31, without one
 abbrev pub InTable : Outcome Head → Type 0
 InTable (accepted h) = Unit {0}
 InTable (refused c p) = (1 ≤ c) × (c ≤ 8)
-InTable (unplaced c) = (c ≡ 11) ⊎ ((c ≡ 12) ⊎ ((c ≡ 13) ⊎ ((c ≡ 14) ⊎ ((c ≡ 21) ⊎ ((c ≡ 22) ⊎ (c ≡ 31))))))
+InTable (unplaced c) = HeaderNumber c ⊎ (c ≡ 31)
 
 -- ---- the parts of a header
 
@@ -54,25 +54,18 @@ Fourth limit m x i = Third limit m (Coordinate x) · Define (Word (m .name ++ as
 abbrev pub No : Lang → List ℕ → Type 0
 No L t = Begun L t → ⊥
 
--- a token that writes no side, not even 0; one that writes no coordinate
-abbrev pub NoSide : List ℕ → Type 0
-NoSide w = (n : ℕ) → Decimal n w → n < 4294967296 → ⊥
-
-abbrev pub NoCoordinate : List ℕ → Type 0
-NoCoordinate w = (z : ℤ) → Coordinate z w → ⊥
-
 -- after k data bytes another is read: the picture has more, and of the buffer's rows not more than all are filled
 abbrev pub Wanted : Mask → List ℕ → ℕ → Type 0
 Wanted m pixels k = (k < W m * m .height) × (k ≤ W m * rows m pixels)
 
 -- ---- the conditions of document 01's table, of a text under a limit on the symbol, in the order of checking
 
--- width line, whatever its token says: there is none; its token is no integer in range; it is zero
+-- width line, whatever its token says: there is none; its token has the fault F, so that it is no integer in range; it is zero
 abbrev pub NoWidthLine : ℕ → List ℕ → Type 0
 NoWidthLine limit t = (s : List ℕ) → No (Front limit s Token) t
 
-abbrev pub BadWidth : ℕ → List ℕ → Type 0
-BadWidth limit t = (s : List ℕ) × (w : List ℕ) × Begun (Front limit s (Word w)) t × Token w × NoSide w
+abbrev pub BadWidth : ℕ → Lang → List ℕ → Type 0
+BadWidth limit F t = (s : List ℕ) × (w : List ℕ) × Begun (Front limit s (Word w)) t × Token w × F w
 
 abbrev pub ZeroWidth : ℕ → List ℕ → Type 0
 ZeroWidth limit t = (s : List ℕ) × Begun (Front limit s (Decimal 0)) t
@@ -81,8 +74,8 @@ ZeroWidth limit t = (s : List ℕ) × Begun (Front limit s (Decimal 0)) t
 abbrev pub NoHeightLine : ℕ → List ℕ → Type 0
 NoHeightLine limit t = (m : Mask) × Begun (Front limit (m .name) (Side (m .width))) t × No (Second limit m Token) t
 
-abbrev pub BadHeight : ℕ → List ℕ → Type 0
-BadHeight limit t = (m : Mask) × (w : List ℕ) × Begun (Second limit m (Word w)) t × Token w × NoSide w
+abbrev pub BadHeight : ℕ → Lang → List ℕ → Type 0
+BadHeight limit F t = (m : Mask) × (w : List ℕ) × Begun (Second limit m (Word w)) t × Token w × F w
 
 abbrev pub ZeroHeight : ℕ → List ℕ → Type 0
 ZeroHeight limit t = (m : Mask) × Begun (Second limit m (Decimal 0)) t
@@ -91,15 +84,15 @@ ZeroHeight limit t = (m : Mask) × Begun (Second limit m (Decimal 0)) t
 abbrev pub NoXLine : ℕ → List ℕ → Type 0
 NoXLine limit t = (m : Mask) × Begun (Sides limit m · Lit "#") t × No (Third limit m Token) t
 
-abbrev pub BadX : ℕ → List ℕ → Type 0
-BadX limit t = (m : Mask) × (w : List ℕ) × Begun (Third limit m (Word w)) t × Token w × NoCoordinate w
+abbrev pub BadX : ℕ → Lang → List ℕ → Type 0
+BadX limit F t = (m : Mask) × (w : List ℕ) × Begun (Third limit m (Word w)) t × Token w × F w
 
 -- after that line none for `_y_hot`; its token
 abbrev pub NoYLine : ℕ → List ℕ → Type 0
 NoYLine limit t = (m : Mask) × (x : ℤ) × Begun (Third limit m (Coordinate x)) t × No (Fourth limit m x Token) t
 
-abbrev pub BadY : ℕ → List ℕ → Type 0
-BadY limit t = (m : Mask) × (x : ℤ) × (w : List ℕ) × Begun (Fourth limit m x (Word w)) t × Token w × NoCoordinate w
+abbrev pub BadY : ℕ → Lang → List ℕ → Type 0
+BadY limit F t = (m : Mask) × (x : ℤ) × (w : List ℕ) × Begun (Fourth limit m x (Word w)) t × Token w × F w
 
 -- after both sides and no `#`, or after the hotspot, no array line
 abbrev pub NoArrayLine : ℕ → List ℕ → Type 0

@@ -32,7 +32,7 @@ rows =
     row (ofHeader (accepted (ending-at spot (placeOf 123 5 36 87))) 4) 0 (123 ∷ 5 ∷ 36 ∷ 9 ∷ 2 ∷ 4 ∷ 1 ∷ 0 ∷ 87 ∷ 0 ∷ []) (pos 3 ∷ negℤ (pos 40) ∷ [])
     ∷ row (ofHeader (accepted (ending-at plain (placeOf 61 3 24 37))) 1) 0 (61 ∷ 3 ∷ 24 ∷ 7 ∷ 11 ∷ 1 ∷ 0 ∷ 0 ∷ 37 ∷ 0 ∷ []) (pos 0 ∷ pos 0 ∷ [])
     ∷ row (ofHeader (refused 5 (placeOf 60 3 23 37)) 0) 5 (60 ∷ 3 ∷ 23 ∷ 0 ∷ 0 ∷ 0 ∷ 0 ∷ 0 ∷ 37 ∷ 0 ∷ []) (pos 0 ∷ pos 0 ∷ [])
-    ∷ row (ofHeader (unplaced 11) 0) 11 (0 ∷ 0 ∷ 0 ∷ 0 ∷ 0 ∷ 0 ∷ 0 ∷ 0 ∷ 0 ∷ 0 ∷ []) (pos 0 ∷ pos 0 ∷ [])
+    ∷ row (ofHeader (unplaced 111) 0) 111 (0 ∷ 0 ∷ 0 ∷ 0 ∷ 0 ∷ 0 ∷ 0 ∷ 0 ∷ 0 ∷ 0 ∷ []) (pos 0 ∷ pos 0 ∷ [])
     -- an accepted picture tells no place, and a refusal after the header keeps the name
     ∷ row (ofImage (accepted spot) 4) 0 (0 ∷ 0 ∷ 0 ∷ 9 ∷ 2 ∷ 4 ∷ 1 ∷ 0 ∷ 0 ∷ 0 ∷ []) (pos 3 ∷ negℤ (pos 40) ∷ [])
     ∷ row (ofImage (accepted plain) 1) 0 (0 ∷ 0 ∷ 0 ∷ 7 ∷ 11 ∷ 1 ∷ 0 ∷ 0 ∷ 0 ∷ 0 ∷ []) (pos 0 ∷ pos 0 ∷ [])

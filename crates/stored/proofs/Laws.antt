@@ -3,11 +3,15 @@ use mathlib.Core.Path.{_≡_, sym}
 use Prim.Native.Nat.{ℕ, _+_, _*_, _≤_, _<_}
 use mathlib.Core.List.{List}
 use lib.ListN.{length, List·getD-eq-default}
+use mathlib.Core.Bool.{Bool, true, false}
+use lib.Dec.{leb, eqb}
 use borrow.Author.Tests.{le-leb, lt-leb, eq-eqb, ne-eqb}
+use Rattle.text.specs.Place.{pick}
 use Rattle.stored.specs.declared.Told.{Told}
 use Rattle.stored.specs.declared.Record.{Record}
 use Rattle.stored.specs.declared.Verdict.{Verdict}
-use Rattle.stored.specs.Record.{byteAt, numberAt, toldIn, recordIn, unless}
+use Rattle.stored.specs.declared.Verdict.the-variants.{Number}
+use Rattle.stored.specs.Record.{byteAt, numberAt, toldIn, recordIn, countsAs, unless}
 
 module _ (w : List ℕ) (i : ℕ) where
   pub byte-past : length w ≤ i → 0 ≡ byteAt w i
@@ -41,5 +45,35 @@ module _ (m n : ℕ) (v w : Verdict) where
   pub unless-same : {z : Verdict} → m ≡ n → z ≡ w → z ≡ unless m n v w
   unfolding unless
   unless-same h q = rw (eq-eqb m n h) q
+
+-- a number beside the original's
+module _ (m n : ℕ) where
+  pub counts-below : n < 11 → eqb m n ≡ countsAs m n
+  unfolding countsAs
+  counts-below h = rw (lt-leb 11 n h)
+
+  pub counts-above : 11 ≤ n → 14 < n → eqb m n ≡ countsAs m n
+  unfolding countsAs
+  counts-above h k = rw (le-leb 11 n h, lt-leb n 14 k)
+
+  pub counts-less : 11 ≤ n → n ≤ 14 → m < n * 10 + 1 → false ≡ countsAs m n
+  unfolding countsAs
+  counts-less h k l = rw (le-leb 11 n h, le-leb n 14 k, lt-leb (n * 10 + 1) m l)
+
+  pub counts-within : 11 ≤ n → n ≤ 14 → n * 10 + 1 ≤ m → leb m (n * 10 + 4) ≡ countsAs m n
+  unfolding countsAs
+  counts-within h k l = rw (le-leb 11 n h, le-leb n 14 k, le-leb (n * 10 + 1) m l)
+
+pub ruleset counts·laws = (counts-below, counts-above, counts-less, counts-within)
+
+-- the numbers differ, or count as one
+module _ (m n : ℕ) {t : Bool} (e : t ≡ countsAs m n) (w : Verdict) where
+  pub number-differs : t ≡ false → Number ≡ pick (countsAs m n) w Number
+  number-differs h = rw (← e, h)
+
+  pub number-same : {z : Verdict} → t ≡ true → z ≡ w → z ≡ pick (countsAs m n) w Number
+  number-same h q = rw (← e, h) q
+
+pub ruleset number·laws = (number-differs, number-same)
 
 pub ruleset verdict·laws = (unless-differs, unless-same)

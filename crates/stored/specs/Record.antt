@@ -2,6 +2,7 @@
 use Prim.Native.Nat.{ℕ, _+_, _*_}
 use mathlib.Core.List.{List}
 use lib.ListN.{getD}
+use mathlib.Core.Bool.{Bool, false}
 use lib.Dec.{leb, eqb}
 use Rattle.text.specs.Place.{pick}
 use Rattle.stored.specs.declared.Told.{Told}
@@ -62,6 +63,10 @@ sidesOn a b = unless (a .width) (b .width) Sides (unless (a .height) (b .height)
 unfoldable pub placeOn : Told → Told → Verdict
 placeOn a b = unless (a .byte) (b .byte) Place (unless (a .line) (b .line) Place (unless (a .column) (b .column) Place (sidesOn a b)))
 
+-- our number counts as the original's: its 11 to 14 are four of ours each, any other is itself
+unfoldable pub countsAs : ℕ → ℕ → Bool
+countsAs m n = pick (leb 11 n) (pick (leb n 14) (pick (leb (n * 10 + 1) m) (leb m (n * 10 + 4)) false) (eqb m n)) (eqb m n)
+
 -- in the number, or in those
 unfoldable pub verdictOn : Told → Told → Verdict
-verdictOn a b = unless (a .number) (b .number) Number (placeOn a b)
+verdictOn a b = pick (countsAs (a .number) (b .number)) (placeOn a b) Number

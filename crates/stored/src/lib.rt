@@ -1,7 +1,7 @@
 // A record of the stored answers: what is lent in a case, and what the original answered. docs/REPLAY.md tells the format.
 ghost use mathlib.Core.Path.{_≡_};
 ghost use Prim.Native.Nat.{_<_};
-ghost use Rattle.stored.specs.Record.{byteAt, numberAt, toldIn, recordIn, nameOn, hotspotOn, sidesOn, placeOn, verdictOn};
+ghost use Rattle.stored.specs.Record.{byteAt, numberAt, toldIn, recordIn, countsAs, nameOn, hotspotOn, sidesOn, placeOn, verdictOn};
 
 // The bytes of a record.
 pub const RECORD: usize = 60;
@@ -9,7 +9,7 @@ pub const RECORD: usize = 60;
 // The longest text and the most cells that a case may lend.
 pub const ROOM: usize = 4096;
 
-// One more than the largest number that an answer has.
+// One more than the largest number that the original gives.
 pub const NUMBERS: usize = 32;
 
 // An answer, and the sums of both buffers after it. What an answer does not tell is 0.
@@ -168,12 +168,29 @@ fn compare_place(ours: Told, original: Told) -> Verdict
     compare_sides(ours, original)
 }
 
+// Whether our number counts as the original's. Of an integer's token that is none the original tells one number, 11 to 14;
+// ours, which tell the fault too, are 111 to 114 for 11, and so on.
+fn counts_as(ours: u64, original: u64) -> bool
+    ensures { λ r. ⌜ r ≡ countsAs ours original ⌝ }
+{
+    if original < 11 {
+        return ours == original;
+    }
+    if 14 < original {
+        return ours == original;
+    }
+    if ours < original * 10 + 1 {
+        return false;
+    }
+    ours <= original * 10 + 4
+}
+
 // What differs first between our answer and the original's, in the order of the verdicts.
 pub fn compare(ours: Told, original: Told) -> Verdict
     ensures { λ r. ⌜ r ≡ verdictOn ours original ⌝ }
 {
-    if ours.number != original.number {
-        return Verdict::Number;
+    if counts_as(ours.number, original.number) {
+        return compare_place(ours, original);
     }
-    compare_place(ours, original)
+    Verdict::Number
 }

@@ -98,11 +98,22 @@ headers =
     ∷ at (sides "9" "1" ++ ascii "#define d_x_hot 0\n" ++ array) 0 4 56 4 1 55 0
     ∷ at (sides "9" "1" ++ ascii "\n") 0 5 38 4 0 38 0
     ∷ at (take 60 M) 0 5 60 3 23 37 0
-    ∷ bare (sides "014" "1" ++ array) 0 11 0
-    ∷ bare (sides "4294967296" "1" ++ array) 0 11 0
-    ∷ bare (sides "9" "+1" ++ array) 0 12 0
-    ∷ bare (hot "2147483648" "0") 0 13 0
-    ∷ bare (hot "0" "-") 0 14 0
+    ∷ bare (sides "" "1" ++ array) 0 111 0
+    ∷ bare (sides "014z" "1" ++ array) 0 112 0
+    ∷ bare (sides "-" "1" ++ array) 0 113 0
+    ∷ bare (sides "4294967296" "1" ++ array) 0 114 0
+    ∷ bare (sides "9" "" ++ array) 0 121 0
+    ∷ bare (sides "9" "014" ++ array) 0 122 0
+    ∷ bare (sides "9" "9999999999z" ++ array) 0 123 0
+    ∷ bare (sides "9" "99999999999" ++ array) 0 124 0
+    ∷ bare (hot "-" "0") 0 131 0
+    ∷ bare (hot "-00" "0") 0 132 0
+    ∷ bare (hot "+1" "0") 0 133 0
+    ∷ bare (hot "2147483648" "0") 0 134 0
+    ∷ bare (hot "0" "") 0 141 0
+    ∷ bare (hot "0" "-0z") 0 142 0
+    ∷ bare (hot "0" "--1") 0 143 0
+    ∷ bare (hot "0" "-2147483649") 0 144 0
     ∷ bare (sides "0" "1" ++ array) 0 21 0
     ∷ bare (sides "9" "0" ++ array) 0 22 0
     ∷ []
@@ -128,7 +139,8 @@ pictures =
     ∷ at (take 71 M) 9 7 71 3 34 37 1
     ∷ at (take 146 spot) 18 7 146 5 59 87 4
     ∷ at (M ++ ascii "x") 9 8 74 4 1 73 1
-    ∷ bare (sides "014" "1" ++ array) 9 11 0
+    ∷ bare (sides "014" "1" ++ array) 9 112 0
+    ∷ bare (hot "0" "-") 9 141 0
     ∷ bare (sides "0" "1" ++ array) 9 21 0
     ∷ bare (sides "9" "0" ++ array) 9 22 0
     ∷ bare M 8 31 1

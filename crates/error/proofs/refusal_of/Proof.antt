@@ -13,11 +13,8 @@ part-number-requires c κs = search needs
 enum-known-e-2 : tie.Need-enum-known-e-2
 enum-known-e-2 c = search needs
 
-part-number-requires-2 : tie.Need-part-number-requires-2
-part-number-requires-2 c κs = search needs
-
-add-t8 : tie.Need-add-t8
-add-t8 c = search (refusal·laws, needs)
+integer-number-requires : tie.Need-integer-number-requires
+integer-number-requires c κs = search needs
 
 enum-told : tie.Need-enum-told
 enum-told c = search needs
@@ -44,8 +41,7 @@ refusal-of-spec =
     enum-known-e
     part-number-requires
     enum-known-e-2
-    part-number-requires-2
-    add-t8
+    integer-number-requires
     enum-told
     enum-told-2
     returns

@@ -34,8 +34,8 @@ returns c = search shown·laws
 read-rest-requires : tie.Need-read-rest-requires
 read-rest-requires c κs = search needs
 
-enum-told : tie.Need-enum-told
-enum-told c = search needs
+enum-known-f : tie.Need-enum-known-f
+enum-known-f c = search needs
 
 enum-known-q : tie.Need-enum-known-q
 enum-known-q c = search needs
@@ -65,7 +65,7 @@ read-height-spec =
     enum-known-height
     returns
     read-rest-requires
-    enum-told
+    enum-known-f
     enum-known-q
     returns-2
     returns-3

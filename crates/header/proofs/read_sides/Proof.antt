@@ -31,8 +31,8 @@ returns c = search shown·laws
 read-height-requires : tie.Need-read-height-requires
 read-height-requires c κs = search needs
 
-enum-told : tie.Need-enum-told
-enum-told c = search needs
+enum-known-f : tie.Need-enum-known-f
+enum-known-f c = search needs
 
 enum-known-q : tie.Need-enum-known-q
 enum-known-q c = search needs
@@ -61,7 +61,7 @@ read-sides-spec =
     enum-known-width
     returns
     read-height-requires
-    enum-told
+    enum-known-f
     enum-known-q
     returns-2
     returns-3

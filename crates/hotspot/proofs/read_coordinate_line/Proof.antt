@@ -24,8 +24,8 @@ parse-i32-requires c κs = search needs
 enum-known-v : tie.Need-enum-known-v
 enum-known-v c = search needs
 
-enum-told : tie.Need-enum-told
-enum-told c = search needs
+enum-known-f : tie.Need-enum-known-f
+enum-known-f c = search needs
 
 enum-known-q : tie.Need-enum-known-q
 enum-known-q c = search needs
@@ -52,7 +52,7 @@ read-coordinate-line-spec =
     slice-aggregate-parse-i32
     parse-i32-requires
     enum-known-v
-    enum-told
+    enum-known-f
     enum-known-q
     returns
     returns-2

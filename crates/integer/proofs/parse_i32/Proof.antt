@@ -1,4 +1,4 @@
--- `integer::parse_i32` meets its contract: each return is a law (`signed-none`, `signed-minus`, `signed-minus-bad`, `signed-plain`).
+-- `integer::parse_i32` meets its contract: each return is a law (`signed-none`, `signed-minus`, `signed-minus-bad`, `signed-plain`, `signed-plain-bad`).
 use Rattle.integer.proofs.Laws.{signed-none, signed-minus, signed-minus-bad, signed-plain, signed-plain-bad}
 use borrow.Author.Needs.{needs}
 use Rattle.integer.proofs.parse_i32.Statement.{statement}
@@ -28,8 +28,8 @@ enum-known-n c = search needs
 to-negative-requires : tie.Need-to-negative-requires
 to-negative-requires c κs = search needs
 
-enum-told : tie.Need-enum-told
-enum-told c = search needs
+enum-known-f : tie.Need-enum-known-f
+enum-known-f c = search needs
 
 parse-u32-requires-2 : tie.Need-parse-u32-requires-2
 parse-u32-requires-2 c κs = search needs
@@ -40,8 +40,8 @@ enum-known-n-2 c = search needs
 to-positive-requires : tie.Need-to-positive-requires
 to-positive-requires c κs = search needs
 
-enum-told-2 : tie.Need-enum-told-2
-enum-told-2 c = search needs
+enum-known-f-2 : tie.Need-enum-known-f-2
+enum-known-f-2 c = search needs
 
 returns-2 : tie.Need-returns-2
 returns-2 c = search signed-minus
@@ -67,11 +67,11 @@ parse-i32-spec =
     parse-u32-requires
     enum-known-n
     to-negative-requires
-    enum-told
+    enum-known-f
     parse-u32-requires-2
     enum-known-n-2
     to-positive-requires
-    enum-told-2
+    enum-known-f-2
     returns-2
     returns-3
     returns-4

@@ -1,4 +1,4 @@
--- `integer::read_digits` meets its contract: the loop keeps `Inv-loop`, and each way on is a law (`digits-low`, `digits-high`, `digits-large`, `digits-again`).
+-- `integer::read_digits` meets its contract: the loop keeps `Inv-loop`, and each way on is a law (`digits-low`, `digits-high`, `digits-again`, `digits-large`, `digits-done`).
 use Rattle.integer.proofs.Laws.{digits-again, digits-large, digits-low, digits-high, digits-done}
 use Prim.Native.Nat.{_≤_, _-_}
 use native.Mathlib.Omega.{arith}
@@ -11,7 +11,7 @@ use Rattle.integer.proofs.read_digits.Tie as tie
 
 abbrev Inv-loop : tie.InvT-loop
 Inv-loop «data» x₀ i₀ x i =
-    (i ≤ length «data») × (x ≤ 4294967295) × (digitsFrom x (drop i «data») ≡ digitsFrom 0 «data»)
+    (i ≤ length «data») × (x ≤ 4294967296) × (digitsFrom x (drop i «data») ≡ digitsFrom 0 «data»)
 
 abbrev μ-loop : tie.MeasureT-loop
 μ-loop «data» x₀ i₀ x i = length «data» - i
@@ -28,17 +28,17 @@ returns c = search digits-low
 returns-2 : tie.Need-returns-2 Inv-loop μ-loop
 returns-2 c = search digits-high
 
-mul-y : tie.Need-mul-y Inv-loop μ-loop
-mul-y c = search needs
+mul-capped : tie.Need-mul-capped Inv-loop μ-loop
+mul-capped c = search needs
 
-cast-y : tie.Need-cast-y Inv-loop μ-loop
-cast-y c = search needs
+cast-capped : tie.Need-cast-capped Inv-loop μ-loop
+cast-capped c = search needs
 
-add-y : tie.Need-add-y Inv-loop μ-loop
-add-y c = search needs
+add-capped : tie.Need-add-capped Inv-loop μ-loop
+add-capped c = search needs
 
-returns-3 : tie.Need-returns-3 Inv-loop μ-loop
-returns-3 c = search digits-large
+capped-requires : tie.Need-capped-requires Inv-loop μ-loop
+capped-requires c κs = search needs
 
 add-i : tie.Need-add-i Inv-loop μ-loop
 add-i c = search needs
@@ -49,8 +49,11 @@ loop-less c = search needs
 loop-again : tie.Need-loop-again Inv-loop μ-loop
 loop-again c = (omega arith, omega arith, search digits-again)
 
-cast-t12 : tie.Need-cast-t12 Inv-loop μ-loop
-cast-t12 c = search needs
+returns-3 : tie.Need-returns-3 Inv-loop μ-loop
+returns-3 c = search digits-large
+
+cast-t16 : tie.Need-cast-t16 Inv-loop μ-loop
+cast-t16 c = search needs
 
 returns-4 : tie.Need-returns-4 Inv-loop μ-loop
 returns-4 c = search digits-done
@@ -65,12 +68,13 @@ read-digits-spec =
     shared-slice-read-d
     returns
     returns-2
-    mul-y
-    cast-y
-    add-y
-    returns-3
+    mul-capped
+    cast-capped
+    add-capped
+    capped-requires
     add-i
     loop-less
     loop-again
-    cast-t12
+    returns-3
+    cast-t16
     returns-4)

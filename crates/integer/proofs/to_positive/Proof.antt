@@ -7,11 +7,11 @@ use Rattle.integer.proofs.to_positive.Tie as tie
 returns : tie.Need-returns
 returns c = search positive-large
 
-cast-t3 : tie.Need-cast-t3
-cast-t3 c = search needs
+cast-t4 : tie.Need-cast-t4
+cast-t4 c = search needs
 
 returns-2 : tie.Need-returns-2
 returns-2 c = search positive-to
 
 pub to-positive-spec : {M : Type 1} → statement M
-to-positive-spec = tie.close (tie.spec returns cast-t3 returns-2)
+to-positive-spec = tie.close (tie.spec returns cast-t4 returns-2)

@@ -1,20 +1,23 @@
--- `compare` meets its contract: each test is the definition's, in its order.
+-- `compare` meets its contract: the number's test, and then the others (`number·laws`).
 use borrow.Author.Needs.{needs}
-use Rattle.stored.proofs.Laws.{verdict·laws}
+use Rattle.stored.proofs.Laws.{number·laws}
 use Rattle.stored.specs.Record.{verdictOn}
 use Rattle.stored.proofs.compare.Statement.{statement}
 use Rattle.stored.proofs.compare.Tie as tie
 
-returns : tie.Need-returns
-unfolding verdictOn
-returns c = search verdict·laws
+counts-as-requires : tie.Need-counts-as-requires
+counts-as-requires c κs = search needs
 
 compare-place-requires : tie.Need-compare-place-requires
 compare-place-requires c κs = search needs
 
+returns : tie.Need-returns
+unfolding verdictOn
+returns c = search number·laws
+
 returns-2 : tie.Need-returns-2
 unfolding verdictOn
-returns-2 c = search verdict·laws
+returns-2 c = search number·laws
 
 pub compare-spec : {M : Type 1} → statement M
-compare-spec = tie.close (tie.spec returns compare-place-requires returns-2)
+compare-spec = tie.close (tie.spec counts-as-requires compare-place-requires returns returns-2)
