@@ -1,17 +1,19 @@
 -- No two hotspots are written alike, nor the lines of two masks of which something else is told.
-use mathlib.Core.Path.{_≡_, refl, sym, ap, _∙_}
-use Prim.Native.Nat.{ℕ, suc, _<_}
+use mathlib.Core.Path.{_≡_, refl, sym, _∙_}
+use mathlib.Core.Logic.{inl, inr}
+use Prim.Native.Nat.{ℕ, _<_}
 use native.Mathlib.Omega.{arith}
 use mathlib.Core.Option.{Option, none, some}
 use mathlib.Core.List.{List, [], _∷_, _++_, append-assoc}
-use lib.IntN.{ℤ, pos, negsuc}
+use lib.IntN.{ℤ}
 use Rattle.text.specs.Ascii.{ascii}
 use Rattle.text.specs.Outcome.{Outcome, accepted}
 use Rattle.header.specs.Header.{Head}
 use Rattle.printing.specs.Printed.{hotText}
 use Rattle.listing.specs.Listing.{listed, listing}
 use Rattle.grammar.specs.Lang.{Word, _·_}
-use Rattle.grammar.specs.Grammar.{Digits, value, Decimal}
+use Rattle.grammar.specs.Grammar.{Digits, value, Decimal, Coordinate}
+use Rattle.grammar.specs.Tests.{coordinate→integer}
 use Rattle.claims.specs.Terms.{Signed, HotWords, Lines, Possible, Same}
 use Rattle.claims.specs.Written.{hots}
 use Rattle.claims.specs.Prints.{hot-ranges, prints}
@@ -33,9 +35,10 @@ split b [] (d ∷ v) x y f (n, g) e = absurd (n cc)
 split b (c ∷ u) [] x y (n, f) g e = absurd (n cc)
 split b (c ∷ u) (d ∷ v) x y (n, f) (m, g) e = let (p, q) = split b u v x y f g cc in (cc, q)
 
-after : (u x y : List ℕ) → u ++ x ≡ u ++ y → x ≡ y
-after [] x y e = e
-after (b ∷ u) x y e = after u x y cc
+-- the same beginning leaves the same
+behind : (u x y : List ℕ) → u ++ x ≡ u ++ y → x ≡ y
+behind [] x y e = e
+behind (b ∷ u) x y e = behind u x y cc
 
 -- ---- numbers
 
@@ -57,24 +60,12 @@ decimal-same : (m n : ℕ) (w : List ℕ) → Decimal m w → Decimal n w → m 
 decimal-same m n w d e = sym (decimal-value m w d) ∙ decimal-value n w e
 
 signed-free : (b : ℕ) (z : ℤ) (w : List ℕ) → b < 45 → Signed z w → Free b w
-unfolding _·_ Word
-signed-free b (pos n) w l d = decimal-free b n w (omega arith) d
-signed-free b (negsuc n) w l (u, v, q, k, d) = rw (q, k) ((λ e. omega arith), decimal-free b (suc n) v (omega arith) d)
-
--- no decimal begins with a minus sign
-unsigned : (m n : ℕ) (w : List ℕ) → Decimal m w → Signed (negsuc n) w → ⊥
-unfolding _·_ Word
-unsigned m n w d (u, v, q, k, e) = (rw (q, k) at (decimal-free 45 m w (omega arith) d)) .0 refl
+unfolding Coordinate _·_ Word
+signed-free b z w l ((n, inl (d, q, h)), k) = decimal-free b n w (omega arith) d
+signed-free b z w l ((n, inr ((u, v, p, m, d), q, h)), k) = rw (p, m) ((λ e. omega arith), decimal-free b n v (omega arith) d)
 
 signed-same : (x y : ℤ) (w : List ℕ) → Signed x w → Signed y w → x ≡ y
-unfolding _·_ Word
-signed-same (pos m) (pos n) w d e = ap (λ (k : ℕ). pos k) (decimal-same m n w d e)
-signed-same (pos m) (negsuc n) w d e = absurd (unsigned m n w d e)
-signed-same (negsuc m) (pos n) w d e = absurd (unsigned n m w e d)
-signed-same (negsuc m) (negsuc n) w (u, v, q, k, d) (u′, v′, q′, k′, e) =
-    let r : v ≡ v′ = after (45 ∷ []) v v′ cc in
-    let s : suc m ≡ suc n = decimal-same (suc m) (suc n) v d (rw r e) in
-    ap (λ (k : ℕ). negsuc k) cc
+signed-same x y w h k = cc (coordinate→integer w x (h .0), coordinate→integer w y (k .0))
 
 -- ---- hotspots
 
@@ -110,8 +101,8 @@ hot-same (some (x, y)) (some (x′, y′)) w (u, v, q, k, (s, z, r, p, m)) (u′
     let d : y ≡ y′ = signed-same y y′ z m (rw b m′) in
     cc
 
-pub hotspots-differ : (a b : Option (ℤ × ℤ)) → Possible a → Possible b → hotText a ≡ hotText b → a ≡ b
-hotspots-differ a b (n, u, h) (m, v, k) e = hot-same a b (hotText b) (rw e at (hots a (hot-ranges n a u h))) (hots b (hot-ranges m b v k))
+pub same-hotspot : (a b : Option (ℤ × ℤ)) → Possible a → Possible b → hotText a ≡ hotText b → a ≡ b
+same-hotspot a b (n, u, h) (m, v, k) e = hot-same a b (hotText b) (rw e at (hots a (hot-ranges n a u h))) (hots b (hot-ranges m b v k))
 
 -- ---- lines
 
@@ -170,16 +161,16 @@ four h k t (u, v, q, (a, b, q₁, (a₁, a₂, q₂, k₂, d), (b₁, b₂, q₃
 four-same : (h g : Head) (j k : ℕ) (t : List ℕ) → Four h j t → Four g k t → Same h g j k
 four-same h g j k t a b =
     let w : fromWidth (a .width) (a .height) (a .hot) (a .ink) ≡ fromWidth (b .width) (b .height) (b .hot) (b .ink) = sym (a .whole) ∙ b .whole in
-    let (p, q) = decimal-line (h .width) (g .width) (a .width) (b .width) (fromHeight (a .height) (a .hot) (a .ink)) (fromHeight (b .height) (b .hot) (b .ink)) (a .wide) (b .wide) (after (ascii "width ") _ _ w) in
-    let (r, s) = decimal-line (h .height) (g .height) (a .height) (b .height) (fromHot (a .hot) (a .ink)) (fromHot (b .hot) (b .ink)) (a .high) (b .high) (after (ascii "height ") _ _ q) in
-    let (o, i) = hot-line (h .hot) (g .hot) (a .hot) (b .hot) (fromInk (a .ink)) (fromInk (b .ink)) (a .spot) (b .spot) (after (ascii "hotspot ") _ _ s) in
-    let (n, e) = decimal-line j k (a .ink) (b .ink) [] [] (a .inked) (b .inked) (after (ascii "ink ") _ _ i) in
+    let (p, q) = decimal-line (h .width) (g .width) (a .width) (b .width) (fromHeight (a .height) (a .hot) (a .ink)) (fromHeight (b .height) (b .hot) (b .ink)) (a .wide) (b .wide) (behind (ascii "width ") _ _ w) in
+    let (r, s) = decimal-line (h .height) (g .height) (a .height) (b .height) (fromHot (a .hot) (a .ink)) (fromHot (b .hot) (b .ink)) (a .high) (b .high) (behind (ascii "height ") _ _ q) in
+    let (o, i) = hot-line (h .hot) (g .hot) (a .hot) (b .hot) (fromInk (a .ink)) (fromInk (b .ink)) (a .spot) (b .spot) (behind (ascii "hotspot ") _ _ s) in
+    let (n, e) = decimal-line j k (a .ink) (b .ink) [] [] (a .inked) (b .inked) (behind (ascii "ink ") _ _ i) in
     record { width = p; height = r; hot = o; ink = n }
 
 lines-same : (a b : Outcome Head) (h g : Head) (j k : ℕ) (t u : List ℕ) → Lines a j t → Lines b k u → a ≡ accepted h → b ≡ accepted g → t ≡ u → Same h g j k
 lines-same a b h g j k t u l m q r e = four-same h g j k u (four h j u (rw (q, e) at l)) (four g k u (rw r at m))
 
-pub listings-differ : (text name cells text′ name′ cells′ : List ℕ) (h g : Head)
+pub same-told : (text name cells text′ name′ cells′ : List ℕ) (h g : Head)
     → listed text name cells .told ≡ accepted h → listed text′ name′ cells′ .told ≡ accepted g → listing text name cells ≡ listing text′ name′ cells′
     → Same h g (listed text name cells .ink) (listed text′ name′ cells′ .ink)
-listings-differ t n c t′ n′ c′ h g q r e = lines-same _ _ h g _ _ _ _ (prints t n c) (prints t′ n′ c′) q r e
+same-told t n c t′ n′ c′ h g q r e = lines-same _ _ h g _ _ _ _ (prints t n c) (prints t′ n′ c′) q r e

@@ -96,7 +96,7 @@ limits t name cells = record {
 }
 
 -- 4. LINES. What is printed of any text is a word of the lines of its answer: words as quoted, each number in the grammar's decimal (no leading zero),
--- a negative one with `-` in front, x before y.
+-- only a negative one with `-` in front, x before y, `none` for no hotspot.
 pub prints : (text name cells : List ℕ) → Lines (listed text name cells .told) (listed text name cells .ink) (listing text name cells)
 prints = Prints.prints
 
@@ -106,10 +106,10 @@ short = Sizes.listing-short
 
 -- 6. DISTINCT. No two hotspots that a text can have print alike, an absent one among them.
 pub distinct : (a b : Option (ℤ × ℤ)) → Possible a → Possible b → hotText a ≡ hotText b → a ≡ b
-distinct = Distinct.hotspots-differ
+distinct = Distinct.same-hotspot
 
--- So two accepted texts that list alike, whatever is lent, have the same sides, hotspot and ink.
+-- And two accepted texts that list alike, whatever is lent with each, have the same sides, hotspot and ink.
 pub same-listed : (text name cells text′ name′ cells′ : List ℕ) (h g : Head)
     → listed text name cells .told ≡ accepted h → listed text′ name′ cells′ .told ≡ accepted g → listing text name cells ≡ listing text′ name′ cells′
     → Same h g (listed text name cells .ink) (listed text′ name′ cells′ .ink)
-same-listed = Distinct.listings-differ
+same-listed = Distinct.same-told

@@ -6,13 +6,13 @@ use Prim.Native.String.{String}
 use mathlib.Core.Option.{Option, none, some}
 use mathlib.Core.List.{List, _++_}
 use lib.ListN.{length, take, drop, getElem?}
-use lib.IntN.{ℤ, pos, negsuc}
+use lib.IntN.{ℤ}
 use Rattle.text.specs.declared.TextLocation.{TextLocation}
 use Rattle.text.specs.Ascii.{ascii}
 use Rattle.text.specs.Outcome.{Outcome, accepted, refused, unplaced}
 use Rattle.header.specs.Header.{Head}
 use Rattle.grammar.specs.Lang.{Lang, Lit, _·_, Star}
-use Rattle.grammar.specs.Grammar.{Mask, Gap, Decimal, Hotspot, Skipped, Header, Byte, Data, Format}
+use Rattle.grammar.specs.Grammar.{Mask, Gap, Decimal, Coordinate, Hotspot, Skipped, Header, Byte, Data, Format}
 
 -- a mask without its data bytes
 abbrev pub headOf : Mask → Head
@@ -104,10 +104,9 @@ Aligned p = p .start .0 + p .column .0 ≡ p .byte .0
 abbrev pub Field : String → ℕ → Lang
 Field s n = Lit s · Decimal n
 
--- a number in decimal, with `-` in front where negative
+-- a coordinate as the grammar writes it, but not 0 with a sign
 abbrev pub Signed : ℤ → Lang
-Signed (pos n) = Decimal n
-Signed (negsuc n) = Lit "-" · Decimal (suc n)
+Signed z w = Coordinate z w × (w ≡ ascii "-0" → ⊥)
 
 -- a hotspot: two numbers, x first; or `none` where its lines are absent
 abbrev pub HotWords : Option (ℤ × ℤ) → Lang

@@ -78,9 +78,12 @@ InRange (negsuc n) = n < 2147483648
 
 -- a number of 32 bits with a sign
 written-signed : (z : ℤ) → InRange z → Signed z (signed z)
-unfolding _·_ Word
-written-signed (pos n) l = written n (omega arith)
-written-signed (negsuc n) l = (45 ∷ [], decimal (suc n), refl, refl, written (suc n) (omega arith))
+unfolding Coordinate _·_ Word
+written-signed (pos n) l = ((n, inl (written n (omega arith), refl, l)), λ e. omega (arith, (rw e at (all-digits 20 n)) .0 .0))
+written-signed (negsuc n) l = (
+  (suc n, inr ((45 ∷ [], decimal (suc n), refl, refl, written (suc n) (omega arith)), refl, omega arith)),
+  λ e. (let z : decimal (suc n) ≡ 48 ∷ [] = cc in omega (arith, rw z at (digits-value 20 (suc n) (omega arith)))),
+)
 
 -- what the grammar writes is in range
 pub ranged : (z : ℤ) (w : List ℕ) → Coordinate z w → InRange z
