@@ -13,7 +13,7 @@ use Rattle.printing.specs.Printed.{hotText}
 use Rattle.listing.specs.Listing.{listed, listing}
 use Rattle.grammar.specs.Lang.{Word, _·_}
 use Rattle.grammar.specs.Grammar.{Digits, value, Decimal, Coordinate}
-use Rattle.grammar.specs.Tests.{coordinate→integer}
+use Rattle.grammar.specs.Tests.{decimal-digits, coordinate→integer}
 use Rattle.claims.specs.Terms.{Signed, HotWords, Lines, Possible, Same}
 use Rattle.claims.specs.Written.{hots}
 use Rattle.claims.specs.Prints.{hot-ranges, prints}
@@ -47,9 +47,7 @@ digits-free b [] l d = tt
 digits-free b (x ∷ w) l ((h, k), d) = ((λ e. omega arith), digits-free b w l d)
 
 decimal-free : (b n : ℕ) (w : List ℕ) → b < 48 → Decimal n w → Free b w
-unfolding Decimal
-decimal-free b n (x ∷ []) l (d, v) = digits-free b (x ∷ []) l d
-decimal-free b n (x ∷ y ∷ w) l (z, d, v) = digits-free b (x ∷ y ∷ w) l d
+decimal-free b n w l d = digits-free b w l (decimal-digits n w d .0)
 
 decimal-value : (n : ℕ) (w : List ℕ) → Decimal n w → value 0 w ≡ n
 unfolding Decimal
