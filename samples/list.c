@@ -59,11 +59,12 @@ static int list(size_t text_length)
     for (size_t i = 0; i < cells; i++)
         ink += pixels[i] == 0;
 
-    int has_hotspot = report[HAS_HOTSPOT] != 0;
     printf("width %" PRIu64 "\n", report[WIDTH]);
     printf("height %" PRIu64 "\n", report[HEIGHT]);
-    printf("hotspot %" PRId32 " %" PRId32 "\n",
-           has_hotspot ? hotspot[0] : -1, has_hotspot ? hotspot[1] : -1);
+    if (report[HAS_HOTSPOT] != 0)
+        printf("hotspot %" PRId32 " %" PRId32 "\n", hotspot[0], hotspot[1]);
+    else
+        printf("hotspot none\n");
     printf("ink %u\n", ink);
     return 0;
 }

@@ -20,4 +20,5 @@ pub mod Steps
 pub mod Written
 pub mod Limits
 pub mod Prints
+pub mod Distinct
 pub mod Program

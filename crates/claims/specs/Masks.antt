@@ -42,8 +42,8 @@ picture text prints cells = record { text = text; lent = sevens 9; prints = prin
 
 abbrev pub table : List Row
 table =
-    picture M "width 9\nheight 1\nhotspot -1 -1\nink 1\n" (0 ∷ replicate 8 255)
-    ∷ picture (take 72 M) "width 9\nheight 1\nhotspot -1 -1\nink 1\n" (0 ∷ replicate 8 255)
+    picture M "width 9\nheight 1\nhotspot none\nink 1\n" (0 ∷ replicate 8 255)
+    ∷ picture (take 72 M) "width 9\nheight 1\nhotspot none\nink 1\n" (0 ∷ replicate 8 255)
     ∷ picture (take 71 M) "refused 7 byte=71,line=3:col=34,start=37\n" (0 ∷ replicate 8 255)
     ∷ picture (take 65 M) "refused 6 byte=65,line=3:col=28,start=37\n" (0 ∷ replicate 7 255 ++ sevens 1)
     ∷ picture (take 64 M) "refused 6 byte=64,line=3:col=27,start=37\n" (sevens 9)
@@ -64,6 +64,8 @@ table =
     ∷ header (spotted "3" "-04") "refused 142\n" "d_width"
     ∷ picture (spotted "3" "4") "width 9\nheight 1\nhotspot 3 4\nink 1\n" (0 ∷ replicate 8 255)
     ∷ picture (spotted "-5" "-2147483648") "width 9\nheight 1\nhotspot -5 -2147483648\nink 1\n" (0 ∷ replicate 8 255)
+    ∷ picture (spotted "-1" "-1") "width 9\nheight 1\nhotspot -1 -1\nink 1\n" (0 ∷ replicate 8 255)
+    ∷ picture (spotted "-0" "0") "width 9\nheight 1\nhotspot 0 0\nink 1\n" (0 ∷ replicate 8 255)
     ∷ []
 
 -- what a row wants, and what the listing gives

@@ -34,7 +34,7 @@ use Rattle.claims.specs.Written.{Hots, ranged, Printable, lines}
 
 -- ---- of a header
 
-hot-ranges : (name : List ℕ) (o : Option (ℤ × ℤ)) (w : List ℕ) → Hotspot name o w → Hots o
+pub hot-ranges : (name : List ℕ) (o : Option (ℤ × ℤ)) (w : List ℕ) → Hotspot name o w → Hots o
 unfolding Hotspot Define _·_
 hot-ranges name none w h = tt
 hot-ranges name (some (x, y)) w (a, b, q, (c1, d1, q1, k1, (c2, d2, q2, k2, (c3, d3, q3, k3, (c4, d4, q4, k4, (c5, d5, q5, k5, r5))))), (e1, f1, p1, l1, (e2, f2, p2, l2, (e3, f3, p3, l3, (e4, f4, p4, l4, (e5, f5, p5, l5, s5)))))) = (ranged x c5 k5, ranged y e5 l5)

@@ -3,20 +3,22 @@
 use mathlib.Core.Path.{_≡_, refl}
 use mathlib.Core.Logic.{_↔_}
 use Prim.Native.Nat.{ℕ, _*_, _≤_, _<_}
+use mathlib.Core.Option.{Option}
 use mathlib.Core.List.{List, _++_, map}
 use lib.ListN.{length, take, drop}
+use lib.IntN.{ℤ}
 use Rattle.text.specs.declared.TextLocation.{TextLocation}
 use Rattle.text.specs.Place.{byteOf, start, past, after, rest}
 use Rattle.text.specs.Reader.{_>>=_}
 use Rattle.text.specs.Leaf.{give, want, need, one, run, fork, eot}
-use Rattle.text.specs.Outcome.{refused, unplaced}
+use Rattle.text.specs.Outcome.{accepted, refused, unplaced}
 use Rattle.lexical.specs.Lexical.{isBlank, isLoose, byte, skip, fixed, gap, lineEnd, leading}
 use Rattle.lexical.specs.Token.{token, span}
 use Rattle.hex.specs.Hex.{hexOf, hexv, hexDigit, isMark, hexStart, hexDigits, hexUnit}
 use Rattle.integer.specs.Decimal.{isDigit, digitsFrom}
 use Rattle.symbol.specs.Symbol.{endsWith, before, opening, stored}
 use Rattle.lines.specs.Lines.{positive, widthLine, element, arrayLine}
-use Rattle.header.specs.Header.{rest as restOf, header}
+use Rattle.header.specs.Header.{Head, rest as restOf, header}
 use Rattle.body.specs.Data.{item, items, brace, closing, tail, trailer, logOf}
 use Rattle.cells.specs.Cells.{cell, painted}
 use Rattle.rows.specs.Rows.{whole}
@@ -25,15 +27,16 @@ use Rattle.print.specs.Decimal.{digits}
 use Rattle.print.specs.Output.{joined}
 use Rattle.ink.specs.Ink.{inkOf}
 use Rattle.image.specs.Limited.{cellsOf, afterHeader, limited}
-use Rattle.printing.specs.Printed.{acceptedText, printed}
+use Rattle.printing.specs.Printed.{hotText, acceptedText, printed}
 use Rattle.listing.specs.Listing.{Listed, listedWithin, listed, listing}
 use Rattle.grammar.specs.Grammar.{Mask, Header, Format}
-use Rattle.claims.specs.Terms.{headOf, Last, Begun, Lines}
+use Rattle.claims.specs.Terms.{headOf, Last, Begun, Lines, Possible, Same}
 use Rattle.listing.specs.Sizes
 use Rattle.claims.specs.Listings
 use Rattle.claims.specs.Masks.{table, given, wanted}
 use Rattle.claims.specs.Limits as Limit
 use Rattle.claims.specs.Prints
+use Rattle.claims.specs.Distinct
 
 -- 1. MASKS. Each of document 01's masks, as a row of the table: what is printed, the name buffer and the cells, by computing.
 pub masks : map given table ≡ map wanted table
@@ -93,10 +96,20 @@ limits t name cells = record {
 }
 
 -- 4. LINES. What is printed of any text is a word of the lines of its answer: words as quoted, each number in the grammar's decimal (no leading zero),
--- a negative one with `-` in front, x before y.
+-- only a negative one with `-` in front, x before y, `none` for no hotspot.
 pub prints : (text name cells : List ℕ) → Lines (listed text name cells .told) (listed text name cells .ink) (listing text name cells)
 prints = Prints.prints
 
 -- 5. SIZE. A listing has at most 133 bytes, so that an output of as many holds every one whole.
 pub short : (text name cells : List ℕ) → length (listing text name cells) ≤ 133
 short = Sizes.listing-short
+
+-- 6. DISTINCT. No two hotspots that a text can have print alike, an absent one among them.
+pub distinct : (a b : Option (ℤ × ℤ)) → Possible a → Possible b → hotText a ≡ hotText b → a ≡ b
+distinct = Distinct.same-hotspot
+
+-- And two accepted texts that list alike, whatever is lent with each, have the same sides, hotspot and ink.
+pub same-listed : (text name cells text′ name′ cells′ : List ℕ) (h g : Head)
+    → listed text name cells .told ≡ accepted h → listed text′ name′ cells′ .told ≡ accepted g → listing text name cells ≡ listing text′ name′ cells′
+    → Same h g (listed text name cells .ink) (listed text′ name′ cells′ .ink)
+same-listed = Distinct.same-told

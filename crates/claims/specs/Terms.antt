@@ -12,7 +12,7 @@ use Rattle.text.specs.Ascii.{ascii}
 use Rattle.text.specs.Outcome.{Outcome, accepted, refused, unplaced}
 use Rattle.header.specs.Header.{Head}
 use Rattle.grammar.specs.Lang.{Lang, Lit, _·_, Star}
-use Rattle.grammar.specs.Grammar.{Mask, Gap, Decimal, Coordinate, Skipped, Header, Byte, Data, Format}
+use Rattle.grammar.specs.Grammar.{Mask, Gap, Decimal, Coordinate, Hotspot, Skipped, Header, Byte, Data, Format}
 
 -- a mask without its data bytes
 abbrev pub headOf : Mask → Head
@@ -104,13 +104,28 @@ Aligned p = p .start .0 + p .column .0 ≡ p .byte .0
 abbrev pub Field : String → ℕ → Lang
 Field s n = Lit s · Decimal n
 
--- a hotspot: two numbers, or -1 -1 where there is none
+-- a coordinate as the grammar writes it, but not 0 with a sign
+abbrev pub Signed : ℤ → Lang
+Signed z w = Coordinate z w × (w ≡ ascii "-0" → ⊥)
+
+-- a hotspot: two numbers, x first; or `none` where its lines are absent
 abbrev pub HotWords : Option (ℤ × ℤ) → Lang
-HotWords none = Lit "-1 -1"
-HotWords (some (x, y)) = Coordinate x · Lit " " · Coordinate y
+HotWords none = Lit "none"
+HotWords (some (x, y)) = Signed x · Lit " " · Signed y
 
 -- the lines of an answer, with the ink where it is accepted
 abbrev pub Lines : Outcome Head → ℕ → Lang
 Lines (accepted h) ink = (Field "width " (h .width) · Field "\nheight " (h .height)) · (Lit "\nhotspot " · HotWords (h .hot)) · (Field "\nink " ink · Lit "\n")
 Lines (refused c p) ink = Field "refused " c · (Field " byte=" (p .byte .0) · Field ",line=" (p .line .0) · Field ":col=" (p .column .0) · Field ",start=" (p .start .0)) · Lit "\n"
 Lines (unplaced c) ink = Field "refused " c · Lit "\n"
+
+-- a hotspot that a header can have, an absent one among them
+abbrev pub Possible : Option (ℤ × ℤ) → Type 0
+Possible o = (name : List ℕ) × (w : List ℕ) × Hotspot name o w
+
+-- two masks of which the same is told, with their ink
+pub record Same (h g : Head) (j k : ℕ) : Type 0 where
+  pub width : h .width ≡ g .width
+  pub height : h .height ≡ g .height
+  pub hot : h .hot ≡ g .hot
+  pub ink : j ≡ k

@@ -21,7 +21,7 @@ use Rattle.print.specs.Output.{joined}
 use Rattle.printing.specs.Printed.{hotText, printed}
 use Rattle.grammar.specs.Lang.{Lang, Word, _·_}
 use Rattle.grammar.specs.Grammar.{Digits, value, Decimal, Coordinate}
-use Rattle.claims.specs.Terms.{Field, HotWords, Lines}
+use Rattle.claims.specs.Terms.{Field, Signed, HotWords, Lines}
 
 -- ---- numbers
 
@@ -77,10 +77,13 @@ InRange (pos n) = n < 2147483648
 InRange (negsuc n) = n < 2147483648
 
 -- a number of 32 bits with a sign
-pub written-signed : (z : ℤ) → InRange z → Coordinate z (signed z)
+written-signed : (z : ℤ) → InRange z → Signed z (signed z)
 unfolding Coordinate _·_ Word
-written-signed (pos n) l = (n, inl (written n (omega arith), refl, l))
-written-signed (negsuc n) l = (suc n, inr ((45 ∷ [], decimal (suc n), refl, refl, written (suc n) (omega arith)), refl, omega arith))
+written-signed (pos n) l = ((n, inl (written n (omega arith), refl, l)), λ e. omega (arith, (rw e at (all-digits 20 n)) .0 .0))
+written-signed (negsuc n) l = (
+  (suc n, inr ((45 ∷ [], decimal (suc n), refl, refl, written (suc n) (omega arith)), refl, omega arith)),
+  λ e. (let z : decimal (suc n) ≡ 48 ∷ [] = cc in omega (arith, rw z at (digits-value 20 (suc n) (omega arith)))),
+)
 
 -- what the grammar writes is in range
 pub ranged : (z : ℤ) (w : List ℕ) → Coordinate z w → InRange z
@@ -120,8 +123,8 @@ Printable (accepted h) = (h .width < 2 ^ 64) × (h .height < 2 ^ 64) × Hots (h 
 Printable (refused c p) = (c < 2 ^ 64) × (p .byte .0 < 2 ^ 64) × (p .line .0 < 2 ^ 64) × (p .column .0 < 2 ^ 64) × (p .start .0 < 2 ^ 64)
 Printable (unplaced c) = c < 2 ^ 64
 
-hots : (o : Option (ℤ × ℤ)) → Hots o → HotWords o (hotText o)
-hots none h = quoted "-1 -1"
+pub hots : (o : Option (ℤ × ℤ)) → Hots o → HotWords o (hotText o)
+hots none h = quoted "none"
 hots (some (x, y)) (a, b) = three-words _ _ _ (signed x) (ascii " ") (signed y) (written-signed x a) (quoted " ") (written-signed y b)
 
 pub lines : (a : Outcome Head) (k : ℕ) → Printable a → k < 2 ^ 64 → Lines a k (printed a k)

@@ -18,9 +18,9 @@ fieldText w n = joined (w ∷ decimal n ∷ [])
 abbrev pub pairText : ℤ → ℤ → List ℕ
 pairText x y = joined (signed x ∷ ascii " " ∷ signed y ∷ [])
 
--- as Xlib does, an absent hotspot prints as -1 -1
+-- a hotspot; `none` where its lines are absent
 abbrev pub hotText : Option (ℤ × ℤ) → List ℕ
-hotText none = ascii "-1 -1"
+hotText none = ascii "none"
 hotText (some (x, y)) = pairText x y
 
 -- the four lines of an accepted mask: width, height; hotspot; ink

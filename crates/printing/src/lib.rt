@@ -45,12 +45,12 @@ fn put_pair(out: &mut [u8], at: usize, x: i32, y: i32) -> usize
     put_signed(out, b, y)
 }
 
-// A hotspot; an absent one as -1 -1.
+// A hotspot, or `none` where its lines are absent.
 fn put_hotspot(out: &mut [u8], at: usize, hotspot: Hotspot) -> usize
     ensures { λ r. ⌜ output (now (out .exit)) r ≡ puts (hotText (hotOf hotspot)) (output (now (out .entry)) at) ⌝ }
 {
     match hotspot {
-        Hotspot::Absent => put_bytes(out, at, b"-1 -1"),
+        Hotspot::Absent => put_bytes(out, at, b"none"),
         Hotspot::At(x, y) => put_pair(out, at, x, y),
     }
 }
