@@ -1,4 +1,4 @@
--- Document 01's masks, and more with a hotspot or another integer, as rows of one table: a text, the cells lent, what the program prints, the symbol bytes stored, the cells later.
+-- Document 01's masks, as amended since, and more with a hotspot or another integer, as rows of one table: a text, the cells lent, what the program prints, the symbol bytes stored, the cells later.
 use Prim.Native.Nat.{ℕ}
 use Prim.Native.String.{String}
 use mathlib.Core.List.{List, [], _∷_, _++_}

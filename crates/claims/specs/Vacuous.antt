@@ -1,12 +1,14 @@
--- The claims are not vacuous: document 01's mask M meets their hypotheses, and each way that a claim can go is met by M, one of its cuts or another buffer.
+-- The claims are not vacuous: document 01's mask M meets their hypotheses, and each way that a claim can go is met by M, one of its cuts or another buffer;
+-- and every hotspot of 32 bits meets that of `distinct`.
 use mathlib.Core.Path.{_≡_, refl, sym, _∙_}
 use mathlib.Core.Logic.{_⊎_, inl, inr}
 use Prim.Native.Nat.{ℕ, _≤_, _<_}
 use native.Mathlib.Omega.{arith}
 use native.Mathlib.Decide.{decLt}
 use mathlib.Core.Option.{Option, none, some}
-use mathlib.Core.List.{List, [], _∷_}
+use mathlib.Core.List.{List, [], _∷_, _++_}
 use lib.ListN.{length, take, replicate}
+use lib.IntN.{ℤ, pos, negsuc}
 use Rattle.text.specs.Ascii.{ascii}
 use Rattle.text.specs.Place.{after, rest, placeOf}
 use Rattle.text.specs.Reader.{_>>=_}
@@ -23,9 +25,15 @@ use Rattle.body.specs.Data.{item, items, brace, closing, tail, trailer, logOf}
 use Rattle.cells.specs.Cells.{cell, painted}
 use Rattle.rows.specs.Rows.{whole}
 use Rattle.image.specs.Reading.{picture, reading}
-use Rattle.grammar.specs.Grammar.{Mask, Header, Format}
+use Rattle.print.specs.Decimal.{digits, signed}
+use Rattle.print.specs.Output.{joined}
+use Rattle.printing.specs.Printed.{hotText}
+use Rattle.grammar.specs.Lang.{Word, _·_, Some}
+use Rattle.grammar.specs.Grammar.{Mask, Gap, Coordinate, Define, Hotspot, Header, Format}
+use Rattle.grammar.specs.Flat.{define-is}
 use Rattle.grammar.specs.Sample.{writes-M}
-use Rattle.claims.specs.Terms.{headOf, Fitting, Rule, Last, Begun, Came, Mismatched}
+use Rattle.claims.specs.Terms.{headOf, Fitting, Rule, Last, Begun, Came, Mismatched, Possible}
+use Rattle.claims.specs.Written.{InRange, Hots, written-signed}
 use Rattle.claims.specs.Claims.{Cut, cuts, mismatches, headless}
 
 abbrev M : List ℕ
@@ -124,3 +132,22 @@ not-many-71 x = let e : refused 7 (placeOf 71 3 34 37) ≡ unplaced 31 = sym (co
 
 pub no-header-60 : (m : Mask) → Begun (Header (length name) m) (take 60 M) → ⊥
 no-header-60 = headless (take 60 M) name pixels .0 (rw (computed .3) (omega arith, omega arith))
+
+-- ---- every hotspot of 32 bits is possible, as an absent one is
+
+line : (s : List ℕ) (z : ℤ) → InRange z → Define (Word s) (Coordinate z) (ascii "#define" ++ ascii " " ++ s ++ ascii " " ++ signed z ++ [] ++ ascii "\n")
+unfolding Word Gap Some
+line s z h = define-is (Word s) (Coordinate z) _ .1 (ascii " ", s, ascii " ", signed z, [], refl, ((refl, tt), omega arith), refl, ((refl, tt), omega arith), written-signed z h .0, tt)
+
+pub possible : (o : Option (ℤ × ℤ)) → Hots o → Possible o
+unfolding Hotspot _·_ Word
+possible none h = ([], [], refl)
+possible (some (x, y)) (h, k) = ([], _, (_, _, refl, line (ascii "_x_hot") x h, line (ascii "_y_hot") y k))
+
+pub minus-one : Possible (some (negsuc 0, negsuc 0))
+minus-one = possible (some (negsuc 0, negsuc 0)) (omega arith, omega arith)
+
+-- of numbers beyond 20 digits `distinct` would be false
+pub past-twenty : hotText (some (pos 100000000000000000000, pos 0)) ≡ hotText (some (pos 200000000000000000000, pos 0))
+unfolding digits joined
+past-twenty = refl

@@ -77,7 +77,7 @@ InRange (pos n) = n < 2147483648
 InRange (negsuc n) = n < 2147483648
 
 -- a number of 32 bits with a sign
-written-signed : (z : ℤ) → InRange z → Signed z (signed z)
+pub written-signed : (z : ℤ) → InRange z → Signed z (signed z)
 unfolding Coordinate _·_ Word
 written-signed (pos n) l = ((n, inl (written n (omega arith), refl, l)), λ e. omega (arith, (rw e at (all-digits 20 n)) .0 .0))
 written-signed (negsuc n) l = (
