@@ -1,18 +1,18 @@
-/* Reading XBM masks held in memory: the header, one data byte at a time, or the whole picture.
+/* Reading XBM masks held in memory: the header, one data byte at a time, or the whole picture. And writing them.
  *
- * Every call takes any text and any buffers, of any length. Nothing outside the lent memory is read or written,
- * and every call returns.
+ * Every call takes any text, any mask and any buffers, of any length. Nothing outside the lent memory is read or
+ * written, and every call returns.
  *
  * What the caller keeps while a call runs:
- *   - `text` can be read for `text_len` bytes; `name` and `pixels` can be read and written for their lengths.
- *     With a length of 0 the pointer is not used: it may be null.
- *   - `report` has room for ten uint64_t, `hotspot` for two int32_t, and `decoder` points to one struct. None of them
- *     may be null, and each is aligned as its type is (as every object of that type is).
- *   - No two of the lent objects overlap: text, name, pixels, report, hotspot, decoder.
+ *   - `text` and `cells` can be read for their lengths; `name`, `pixels` and `out` can be read and written for theirs.
+ *     xbm_write only reads its `name`. With a length of 0 the pointer is not used: it may be null.
+ *   - `report` has room for ten uint64_t, `hotspot` for two int32_t, `length` points to one uint64_t and `decoder` to
+ *     one struct. None of them may be null, and each is aligned as its type is (as every object of that type is).
+ *   - No two of the lent objects overlap: text, name, pixels, report, hotspot, decoder, cells, out, length.
  *   - No other thread writes any of them, or reads those that the call may write.
- * Nothing else is presumed. The text may hold any bytes and need not end in 0, the decoder any numbers; what stands in
- * `name`, `pixels`, `report` and `hotspot` before a call does not change what is told. Nothing is kept between calls
- * and no memory is allocated, so calls may come in any order, and at the same time on different memory.
+ * Nothing else is presumed. The text, a mask's name and its cells may hold any bytes and need not end in 0, the decoder
+ * any numbers; what stands in what a call writes does not change what is told. Nothing is kept between calls and no
+ * memory is allocated, so calls may come in any order, and at the same time on different memory.
  *
  * A result of 0 means accepted. Any other result is the number of a refusal:
  *   1 width line, 2 height line, 3 hotspot x line, 4 hotspot y line, 5 array line,
@@ -26,8 +26,14 @@
  *     4 too large or too small: a side is at most 4294967295, x and y are from -2147483648 to 2147483647
  *   21, 22 width, height is zero
  *   31 the pixel buffer's whole rows are not the picture's
+ *   51 to 55 a mask is not written, for the first of these reasons:
+ *     51 its name has more than 250 bytes, or holds a space, a tab or a newline
+ *     52 its width or height is zero
+ *     53 it has not width times height cells
+ *     54 a cell is neither 0 nor 255
+ *     55 the output is too short for its text
  *
- * All ten entries of `report` and both of `hotspot` are written at every call:
+ * All ten entries of `report` and both of `hotspot` are written at every call that is lent them:
  *   report[0], [1], [2]  the place told: byte, line, column; all 0 where none is told
  *   report[3], [4]       width, height of an accepted header or picture, else 0
  *   report[5]            the length of the name, which stands at the start of the name buffer;
@@ -90,6 +96,19 @@ uint32_t xbm_read_image(const uint8_t *text, size_t text_len,
                         uint8_t *name, size_t name_len,
                         uint8_t *pixels, size_t pixels_len,
                         uint64_t report[10], int32_t hotspot[2]);
+
+/* Writes a mask as a text to the start of `out`. The cells stand in rows of `width`, 0 for a set bit and 255 for any
+ * other, as xbm_read_image gives them. With a `has_hotspot` of 0 the mask has no hotspot, whatever x and y are; any
+ * other `has_hotspot` counts as 1, and the hotspot is x, y.
+ * `length` is written at every call: the text's length, or 0 if the call is refused. Past the text `out` is as lent; a
+ * refused call leaves all of it untouched. The text does not end in 0.
+ * An `out_len` of 1539 + 8 * ((width + 7) / 8) * height, which fits in uint64_t, is enough for every text. */
+uint32_t xbm_write(const uint8_t *name, size_t name_len,
+                   uint32_t width, uint32_t height,
+                   uint32_t has_hotspot, int32_t x, int32_t y,
+                   const uint8_t *cells, size_t cells_len,
+                   uint8_t *out, size_t out_len,
+                   uint64_t *length);
 
 #ifdef __cplusplus
 }

@@ -5,9 +5,10 @@
 use crate::classes::Reached;
 use crate::integers;
 use crate::interface::{entry, Answer, Call, Interface, Stray, StreamDecoder, TextLocation};
-use crate::interface::{NONE_LEFT, NO_HOTSPOT_ENTRY};
+use crate::interface::{Written, NONE_LEFT, NO_HOTSPOT_ENTRY};
 use crate::random::Random;
 use crate::starts::{self, Taken};
+use crate::writing::Picture;
 use oracle::{Decoder, Header, Place, Refusal, NAME_BUFFER_LENGTH};
 use std::fmt::{Debug, Write};
 
@@ -159,12 +160,15 @@ impl LentText {
 struct Side {
     name: Lent,
     pixels: Lent,
+    /// Where a text is written.
+    out: Lent,
 }
 
-const CALLS: [(Call, &str); 3] = [
+const CALLS: [(Call, &str); 4] = [
     (Call::ReadHeader, "read_header"),
     (Call::ReadImage, "read_image"),
     (Call::NextByte, "next_byte"),
+    (Call::Write, "write"),
 ];
 
 /// Accepted `next_byte` calls that gave no byte are counted apart, under a number that no refusal has.
@@ -175,7 +179,7 @@ const FOREIGN_START: usize = 15;
 
 /// The numbers that each call can give, all of which a run must reach.
 #[rustfmt::skip]
-const REACHED: [&[usize]; 3] = [
+const REACHED: [&[usize]; CALLS.len()] = [
     &[
         0, 1, 2, 3, 4, 5, 21, 22,
         111, 112, 113, 114, 121, 122, 123, 124, 131, 132, 133, 134, 141, 142, 143, 144,
@@ -185,6 +189,7 @@ const REACHED: [&[usize]; 3] = [
         111, 112, 113, 114, 121, 122, 123, 124, 131, 132, 133, 134, 141, 142, 143, 144,
     ],
     &[0, 6, 7, 8, FOREIGN as usize, ACCEPTED_NONE, FOREIGN_START],
+    &[0, 51, 52, 53, 54, 55],
 ];
 
 /// No call gives a number as large as this.
@@ -193,12 +198,12 @@ const NUMBERS: usize = 145;
 /// How often each call of ours gave each number.
 #[derive(Clone)]
 pub struct Tally {
-    counts: [[u64; NUMBERS]; 3],
+    counts: [[u64; NUMBERS]; CALLS.len()],
 }
 
 impl Default for Tally {
     fn default() -> Tally {
-        Tally { counts: [[0; NUMBERS]; 3] }
+        Tally { counts: [[0; NUMBERS]; CALLS.len()] }
     }
 }
 
@@ -321,14 +326,24 @@ impl<'i> Comparison<'i> {
         pixel_length: usize,
     ) -> Result<(), Difference> {
         let text = text.into();
+        let expected = self.image(text, name_length, pixel_length)?;
+        self.reached.add(text.bytes, name_length, &expected);
+        Ok(())
+    }
+
+    fn image(
+        &mut self,
+        text: Text,
+        name_length: usize,
+        pixel_length: usize,
+    ) -> Result<Answer<OriginalReport>, Difference> {
         self.fill(text, name_length, pixel_length);
         let original = &mut self.original;
         let expected = original_image(text.bytes, original.name.part(), original.pixels.part());
         let (lent, side) = (self.text.part(), &mut self.ours);
         let ours = self.interface.read_image(lent, side.name.part(), side.pixels.part());
         self.settle(Call::ReadImage, text, expected, ours)?;
-        self.reached.add(text.bytes, name_length, &expected);
-        Ok(())
+        Ok(expected)
     }
 
     /// Calls of `next_byte` with the decoder that a header of this text gave.
@@ -413,6 +428,76 @@ impl<'i> Comparison<'i> {
         Ok(())
     }
 
+    /// `write` beside the number, the length and the text that it must give. What is written is then read by the
+    /// original and by ours.
+    pub fn write(&mut self, mask: &Picture, out_length: usize) -> Result<(), Difference> {
+        self.next_filling = (self.next_filling + 1) % FILLINGS;
+        let filling = &self.fillings[self.next_filling..];
+        for side in [&mut self.original, &mut self.ours] {
+            side.name.fill(mask.name.len(), filling);
+            side.name.part().copy_from_slice(&mask.name);
+            side.pixels.fill(mask.cells.len(), filling);
+            side.pixels.part().copy_from_slice(&mask.cells);
+            side.out.fill(out_length, filling);
+        }
+        let text = mask.fault().map_or_else(|| Ok(mask.text()), Err);
+        let text = text.and_then(|text| if text.len() > out_length { Err(55) } else { Ok(text) });
+        let expected = match &text {
+            Ok(text) => {
+                self.original.out.part()[..text.len()].copy_from_slice(text);
+                Written { result: 0, length: text.len() as u64, stray: None }
+            }
+            Err(number) => Written { result: *number, length: 0, stray: None },
+        };
+        let Side { name, pixels, out } = &mut self.ours;
+        let mut ours = self.interface.write(mask, name.part(), pixels.part(), out.part());
+        let mut changed = String::new();
+        for (thing, lent, later) in [
+            ("name", &self.original.name, &self.ours.name),
+            ("cells", &self.original.pixels, &self.ours.pixels),
+            ("output", &self.original.out, &self.ours.out),
+        ] {
+            ours.stray = ours.stray.or(later.stray(thing, lent));
+            let pairs = lent.bytes.iter().zip(&later.bytes);
+            for (i, (a, b)) in pairs.enumerate().filter(|(_, (a, b))| a != b).take(8) {
+                let at = i as i64 - GUARD as i64;
+                writeln!(changed, "byte {at} of the {thing}: expected {a}, ours {b}").unwrap();
+            }
+        }
+        if expected != ours || !changed.is_empty() {
+            let stray = ours.stray.map_or(String::new(), |stray| format!("ours {stray}\n"));
+            return Err(format!(
+                "write differs with an output of {out_length} bytes on {}{changed}{stray}\
+                 expected: result {}, length {}\nours:     result {}, length {}\n",
+                shown(mask),
+                expected.result,
+                expected.length,
+                ours.result,
+                ours.length
+            ));
+        }
+        self.tally.add(Call::Write, ours.result as usize);
+        text.map_or(Ok(()), |text| self.read_again(mask, &text))
+    }
+
+    /// What was written of a mask yields it again, on both sides. It is no drawn text: it counts for no class.
+    fn read_again(&mut self, mask: &Picture, text: &[u8]) -> Result<(), Difference> {
+        let header = self.read_header(text, NAME_BUFFER_LENGTH)?.map(|read| read.header);
+        let answer = self.image(text.into(), NAME_BUFFER_LENGTH, mask.cells.len())?;
+        let Picture { name, width, height, cells, .. } = mask;
+        let kept = [&mut self.original, &mut self.ours].into_iter().all(|side| {
+            side.name.part().starts_with(name) && side.pixels.part() == cells.as_slice()
+        });
+        let wanted = Header { width: *width, height: *height, hotspot: mask.spot() };
+        let told =
+            Answer { report: header_report(&wanted, name.len()), ..accepted_header(&wanted) };
+        if kept && header == Some(wanted) && answer == told {
+            return Ok(());
+        }
+        let text = text.escape_ascii();
+        Err(format!("read again as another mask: \"{text}\"\nwritten of {}", shown(mask)))
+    }
+
     fn settle(
         &mut self,
         call: Call,
@@ -490,6 +575,18 @@ impl<'i> Comparison<'i> {
         }
         out
     }
+}
+
+/// A mask as it was lent, on one line.
+fn shown(mask: &Picture) -> String {
+    let Picture { name, width, height, has_hotspot, hotspot, cells } = mask;
+    let more = if cells.len() > SHOWN { " and more" } else { "" };
+    let some = &cells[..cells.len().min(SHOWN)];
+    format!(
+        "a mask \"{}\" of {width} by {height}, hotspot {has_hotspot} {hotspot:?}, {} cells {some:?}{more}\n",
+        name.escape_ascii(),
+        cells.len()
+    )
 }
 
 /// How many fillings differ from each other.

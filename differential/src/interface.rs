@@ -1,5 +1,6 @@
-//! The C interface of the proved reader, called on slices.
+//! The C interface of the proved reader and writer, called on slices.
 
+use crate::writing::Picture;
 use oracle::Place;
 use std::{fmt, ptr};
 
@@ -44,6 +45,7 @@ pub enum Call {
     ReadHeader,
     ReadImage,
     NextByte,
+    Write,
 }
 
 /// Entries of a report.
@@ -84,12 +86,37 @@ pub type ReadImage = unsafe extern "C" fn(
     *mut i32,
 ) -> u32;
 
-/// The three calls.
+pub type Write = unsafe extern "C" fn(
+    *const u8,
+    usize,
+    u32,
+    u32,
+    u32,
+    i32,
+    i32,
+    *const u8,
+    usize,
+    *mut u8,
+    usize,
+    *mut u64,
+) -> u32;
+
+/// The four calls.
 #[derive(Clone, Copy)]
 pub struct Interface {
     pub read_header: ReadHeader,
     pub next_byte: NextByte,
     pub read_image: ReadImage,
+    pub write: Write,
+}
+
+/// All that the call that writes tells beside its output.
+#[derive(Clone, Copy, Debug, PartialEq, Eq)]
+pub struct Written {
+    pub result: u32,
+    pub length: u64,
+    /// Where it wrote beside the length, or beside a buffer.
+    pub stray: Option<Stray>,
 }
 
 /// All that a call tells beside the buffers it is lent. The original's has its own kind of report.
@@ -249,6 +276,34 @@ impl Interface {
         };
         told.answer(result)
     }
+
+    /// Sides and hotspot are taken from the mask; its name and its cells are lent as memory of the caller's own.
+    pub fn write(
+        &self,
+        mask: &Picture,
+        name: &mut [u8],
+        cells: &mut [u8],
+        out: &mut [u8],
+    ) -> Written {
+        let mut length = Guarded::new(JUNK);
+        let result = unsafe {
+            (self.write)(
+                pointer(name),
+                name.len(),
+                mask.width,
+                mask.height,
+                mask.has_hotspot,
+                mask.hotspot[0],
+                mask.hotspot[1],
+                pointer(cells),
+                cells.len(),
+                pointer(out),
+                out.len(),
+                length.pointer(),
+            )
+        };
+        Written { result, length: length.lent, stray: length.stray("length") }
+    }
 }
 
 /// The hotspot of a call that has none: as it was filled.
@@ -293,11 +348,27 @@ mod library {
             report: *mut u64,
             hotspot: *mut i32,
         ) -> u32;
+
+        fn xbm_write(
+            name: *const u8,
+            name_len: usize,
+            width: u32,
+            height: u32,
+            has_hotspot: u32,
+            x: i32,
+            y: i32,
+            cells: *const u8,
+            cells_len: usize,
+            out: *mut u8,
+            out_len: usize,
+            length: *mut u64,
+        ) -> u32;
     }
 
     pub const INTERFACE: Interface = Interface {
         read_header: xbm_read_header,
         next_byte: xbm_next_byte,
         read_image: xbm_read_image,
+        write: xbm_write,
     };
 }

@@ -1,4 +1,5 @@
-//! Holds the proved reader to the original: what is called, on which texts, and what is compared.
+//! Holds the proved reader to the original, and the proved writer too: what is called, on which texts and masks, and
+//! what is compared.
 
 pub mod integers;
 pub mod interface;
@@ -6,6 +7,7 @@ pub mod library;
 pub mod random;
 pub mod starts;
 pub mod texts;
+pub mod writing;
 
 #[cfg(has_original)]
 pub mod classes;

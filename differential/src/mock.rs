@@ -1,8 +1,9 @@
-//! A stand-in for the proved reader, made of the original, with faults planted at will.
-//! It only tests the comparison: no result of it says anything of the proved reader.
+//! A stand-in for the proved reader, made of the original, and for the proved writer, with faults planted at will.
+//! It only tests the comparison: no result of it says anything of the proved reader and writer.
 
 use crate::integers::{self, LEADING_ZERO, NOTHING_THERE, NO_DIGIT, OUT_OF_RANGE};
 use crate::interface::{entry, Call, Interface, StreamDecoder, TextLocation, ENTRIES};
+use crate::writing::{self, Picture};
 use oracle::{Decoder, Header, Place, Refusal};
 use std::cell::Cell;
 use std::slice;
@@ -78,6 +79,8 @@ pub enum Fault {
     ForeignStartChanged,
     /// The faults of an integer are mixed up.
     Integer(Mixed),
+    /// A mask is not written as it must be.
+    Written(Slip),
     /// The call changes its text.
     TextChanged(Call),
     /// The call writes a byte just before or just past something that it is lent.
@@ -119,6 +122,47 @@ pub enum Mixed {
     HighByte,
 }
 
+/// Ways to write a mask amiss.
+#[derive(Clone, Copy, Debug, PartialEq, Eq)]
+pub enum Slip {
+    /// A bit beside the last cells of a row is set.
+    Padding,
+    /// Capital digits.
+    Capitals,
+    /// A whole last line is ended as if another followed.
+    LineAfterTheLast,
+    /// Highest bit first.
+    Bits,
+    /// Only 1 gives a hotspot.
+    FlagOfOne,
+    /// The hotspot's numbers change places.
+    SpotTurned,
+    /// A refused call leaves the length.
+    LengthKept,
+    /// A text that is too long fills the output.
+    Filled,
+    /// The output is cleared past the text.
+    Cleared,
+    /// An output of just the text's length is too short.
+    Exact,
+    /// A tab may stand in a name.
+    Tab,
+    /// A name may have 251 bytes, or only 249.
+    LongerName,
+    ShorterName,
+    /// The cells are counted before the sides are looked at.
+    CellsFirst,
+    /// The cells are looked at before they are counted.
+    ValuesFirst,
+    /// The product of the sides has 32 bits.
+    Product,
+    /// Any cell but 0 counts as 255.
+    Grey,
+    /// The name changes, or a cell does.
+    NameChanged,
+    CellChanged,
+}
+
 /// Foreign starts that a fault takes. The last four leave out what is close to another of them.
 #[derive(Clone, Copy, Debug, PartialEq, Eq)]
 pub enum Unseen {
@@ -141,6 +185,9 @@ pub enum Thing {
     Decoder,
     Report,
     Hotspot,
+    Cells,
+    Output,
+    Length,
 }
 
 #[derive(Clone, Copy, Debug, PartialEq, Eq)]
@@ -150,10 +197,11 @@ pub enum Side {
 }
 
 /// Each call with what it is lent.
-const LENT: [(Call, &[Thing]); 3] = [
+const LENT: [(Call, &[Thing]); 4] = [
     (Call::ReadHeader, &[Thing::Text, Thing::Name, Thing::Report, Thing::Hotspot]),
     (Call::NextByte, &[Thing::Text, Thing::Decoder, Thing::Report]),
     (Call::ReadImage, &[Thing::Text, Thing::Name, Thing::Pixels, Thing::Report, Thing::Hotspot]),
+    (Call::Write, &[Thing::Name, Thing::Cells, Thing::Output, Thing::Length]),
 ];
 
 impl Fault {
@@ -240,20 +288,49 @@ impl Fault {
         (Fault::Integer(Mixed::HighByte), "\\x"),
     ];
 
+    /// Those of what is written.
+    pub const WRITTEN: [Slip; 19] = [
+        Slip::Padding,
+        Slip::Capitals,
+        Slip::LineAfterTheLast,
+        Slip::Bits,
+        Slip::FlagOfOne,
+        Slip::SpotTurned,
+        Slip::LengthKept,
+        Slip::Filled,
+        Slip::Cleared,
+        Slip::Exact,
+        Slip::Tab,
+        Slip::LongerName,
+        Slip::ShorterName,
+        Slip::CellsFirst,
+        Slip::ValuesFirst,
+        Slip::Product,
+        Slip::Grey,
+        Slip::NameChanged,
+        Slip::CellChanged,
+    ];
+
     /// Those that write where nothing may be written, each with what is to be said of it.
     pub fn writes() -> Vec<(Fault, String)> {
         let mut all = Vec::new();
         for (call, things) in LENT {
-            all.push((Fault::TextChanged(call), "ours changed byte 0 of the text".into()));
+            if things.contains(&Thing::Text) {
+                all.push((Fault::TextChanged(call), "ours changed byte 0 of the text".into()));
+            }
             for &thing in things {
                 for side in [Side::Before, Side::Past] {
                     let name = match thing {
                         Thing::Text => "text",
+                        Thing::Name if call == Call::Write => "name",
                         Thing::Name => "name buffer",
                         Thing::Pixels => "pixel buffer",
                         Thing::Decoder => "decoder",
                         Thing::Report => "report",
                         Thing::Hotspot => "hotspot",
+                        Thing::Cells => "cells",
+                        Thing::Output => "output",
+                        Thing::Length => "length",
                     };
                     let side_name = if side == Side::Past { "past" } else { "before" };
                     let said = format!("wrote {side_name} the {name}");
@@ -280,7 +357,7 @@ pub fn with_fault(fault: Fault) -> Interface {
 
 fn plant(fault: Option<Fault>) -> Interface {
     PLANTED.set(fault);
-    Interface { read_header, next_byte, read_image }
+    Interface { read_header, next_byte, read_image, write }
 }
 
 fn planted(fault: Fault) -> bool {
@@ -651,5 +728,111 @@ fn spoil(text: &[u8], pixels: &mut [u8], lent: &[u8], width: usize) {
     }
     if planted(Fault::Bits) && width.is_multiple_of(8) {
         pixels[..whole].chunks_mut(8).for_each(|byte| byte.reverse());
+    }
+}
+
+unsafe extern "C" fn write(
+    name: *const u8,
+    name_len: usize,
+    width: u32,
+    height: u32,
+    has_hotspot: u32,
+    x: i32,
+    y: i32,
+    cells: *const u8,
+    cells_len: usize,
+    out: *mut u8,
+    out_len: usize,
+    length: *mut u64,
+) -> u32 {
+    const CALL: Call = Call::Write;
+    stray(CALL, Thing::Name, name.cast_mut(), name_len);
+    stray(CALL, Thing::Cells, cells.cast_mut(), cells_len);
+    stray(CALL, Thing::Output, out, out_len);
+    stray(CALL, Thing::Length, length, 1);
+    let slip = |slip| planted(Fault::Written(slip));
+    let mask = Picture {
+        name: part(name, name_len).to_vec(),
+        width,
+        height,
+        has_hotspot: if slip(Slip::FlagOfOne) { u32::from(has_hotspot == 1) } else { has_hotspot },
+        hotspot: if slip(Slip::SpotTurned) { [y, x] } else { [x, y] },
+        cells: part(cells, cells_len).to_vec(),
+    };
+    for (changes, lent, lent_length) in
+        [(Slip::NameChanged, name, name_len), (Slip::CellChanged, cells, cells_len)]
+    {
+        if slip(changes) && lent_length > 0 {
+            *lent.cast_mut() = !*lent;
+        }
+    }
+    let out = part_mut(out, out_len);
+    match mask_written(&mask, out) {
+        Ok(size) => {
+            *length = size as u64;
+            0
+        }
+        Err(number) => {
+            if !slip(Slip::LengthKept) {
+                *length = 0;
+            }
+            number
+        }
+    }
+}
+
+/// The text's length, or the number of the refusal.
+fn mask_written(mask: &Picture, out: &mut [u8]) -> Result<usize, u32> {
+    let slip = |slip| planted(Fault::Written(slip));
+    match fault(mask) {
+        Some(number) => return Err(number),
+        None if mask.fault().is_some() && !slip(Slip::Grey) => return Ok(0),
+        None => {}
+    }
+    let mut mask = mask.clone();
+    if slip(Slip::Bits) && mask.width.is_multiple_of(8) {
+        mask.cells.chunks_mut(8).for_each(|unit| unit.reverse());
+    }
+    let mut text = mask.text();
+    let end = text.len() - "};\n".len();
+    if slip(Slip::Padding) && !mask.width.is_multiple_of(8) {
+        let digit = text[end - 2];
+        text[end - 2] = [digit, b'8'][usize::from(digit == b'0')];
+    }
+    if slip(Slip::Capitals) {
+        text[end - 1].make_ascii_uppercase();
+    }
+    if slip(Slip::LineAfterTheLast) && mask.data().len().is_multiple_of(12) {
+        text.splice(end..end, *b",\n   ");
+    }
+    if text.len() + usize::from(slip(Slip::Exact)) > out.len() {
+        if slip(Slip::Filled) {
+            out.copy_from_slice(&text[..out.len()]);
+        }
+        return Err(55);
+    }
+    out[..text.len()].copy_from_slice(&text);
+    if slip(Slip::Cleared) {
+        out[text.len()..].fill(0);
+    }
+    Ok(text.len())
+}
+
+/// What is wrong with a mask; some of it unseen, or seen too early, where that is planted.
+fn fault(mask: &Picture) -> Option<u32> {
+    let slip = |slip| planted(Fault::Written(slip));
+    let Picture { name, width, height, cells, .. } = mask;
+    let counted = cells.len() as u64 == u64::from(*width) * u64::from(*height);
+    let wrapped = cells.len() as u32 == width.wrapping_mul(*height);
+    let grey = cells.iter().any(|cell| ![0, 255].contains(cell));
+    match mask.fault() {
+        None if slip(Slip::ShorterName) && name.len() == writing::LONGEST_NAME => Some(51),
+        Some(51) if slip(Slip::LongerName) && name.len() == writing::LONGEST_NAME + 1 => None,
+        Some(51) if slip(Slip::Tab) && name.contains(&b'\t') => None,
+        Some(52) if slip(Slip::CellsFirst) && !counted => Some(53),
+        Some(53) if slip(Slip::ValuesFirst) && grey => Some(54),
+        Some(53) if slip(Slip::Product) && wrapped => None,
+        Some(54) if slip(Slip::Grey) => None,
+        right => right,
     }
 }

@@ -7,6 +7,7 @@ use crate::integers;
 use crate::interface::{Interface, StreamDecoder, TextLocation};
 use crate::random::Random;
 use crate::texts::{self, Layout, Mask, TELLING, TOKENS};
+use crate::writing::{self, Picture};
 use oracle::{Header, NAME_BUFFER_LENGTH};
 
 type Tried = Result<(), Difference>;
@@ -93,7 +94,8 @@ impl Trials<'_> {
         self.short_tails()?;
         self.decoders_at_the_limits()?;
         self.lent_starts()?;
-        self.foreign_starts()
+        self.foreign_starts()?;
+        self.masks()
     }
 
     /// Every cut of the sound texts. The bytes after the cut stand after it in memory.
@@ -403,6 +405,84 @@ impl Trials<'_> {
         Ok(())
     }
 
+    /// Masks of every small size written, with hotspots and names at the limits, and masks with which something is wrong.
+    fn masks(&mut self) -> Tried {
+        let sides = (1..=26).flat_map(|width| [1, 2, 3, 12, 13].map(|height| (width, height)));
+        for (width, height) in sides.chain([(8, 24), (8, 25), (96, 1), (97, 2), (300, 40)]) {
+            let mask = Picture::new(b"d", width, height, |cell| cell % 5 % 3 == 0);
+            self.mask(&mask)?;
+            self.mask(&Picture { has_hotspot: 1, ..mask })?;
+        }
+        let mask = Picture::new(b"d", 9, 2, |cell| cell == 9);
+        for has_hotspot in [0, 1, 2, 7, 256, 1 << 31, u32::MAX] {
+            for hotspot in [[0, 0], [-1, 9], [10, -10], [i32::MIN, i32::MAX], [i32::MAX, i32::MIN]]
+            {
+                self.mask(&Picture { has_hotspot, hotspot, ..mask.clone() })?;
+            }
+        }
+        for byte in 0..=255 {
+            for name in [vec![byte], vec![b'd', byte, b'd'], vec![byte; writing::LONGEST_NAME]] {
+                self.mask(&Picture { name, has_hotspot: 1, ..mask.clone() })?;
+            }
+            self.mask(&Picture { cells: vec![byte; 18], ..mask.clone() })?;
+        }
+        // Each with something wrong, in each field that may be.
+        for length in [0, 1, 249, 250, 251, 252, 256, 300] {
+            for (width, height) in
+                [(9, 2), (2, 9), (0, 0), (0, 18), (18, 0), (3, 5), (1 << 16, 1 << 16)]
+            {
+                for cells in
+                    [vec![], vec![0; 17], vec![0; 18], vec![7; 18], vec![255; 19], vec![7; 1]]
+                {
+                    self.mask(&Picture {
+                        name: vec![b'n'; length],
+                        width,
+                        height,
+                        cells,
+                        ..mask.clone()
+                    })?;
+                }
+            }
+        }
+        // The same product in 32 bits.
+        let sides = [(u32::MAX, u32::MAX), ((1 << 31) + 9, 2), (9, (1 << 31) + 2)];
+        for (width, height) in sides {
+            self.mask(&Picture { width, height, ..mask.clone() })?;
+            self.mask(&Picture { width, height, cells: vec![0], ..mask.clone() })?;
+        }
+        Ok(())
+    }
+
+    /// A mask, with outputs about as long as its text and far from it.
+    fn mask(&mut self, mask: &Picture) -> Tried {
+        if mask.fault().is_some() {
+            return [0, 1, 2000].into_iter().try_for_each(|out| self.comparison.write(mask, out));
+        }
+        let exact = mask.text().len();
+        let room = writing::room(mask.width, mask.height) as usize;
+        let lengths = [exact, exact - 1, exact + 1, exact + 100, room, exact / 2, 1, 0];
+        lengths.into_iter().try_for_each(|out| self.comparison.write(mask, out))
+    }
+
+    /// A drawn mask, with something wrong at times, and an output of any length.
+    fn drawn_mask(&mut self) -> Tried {
+        let random = &mut self.random;
+        let mut mask = Picture::random(random);
+        let exact = mask.text().len();
+        let spoilt = random.once_in(3);
+        if spoilt {
+            mask.spoil(random);
+        }
+        let out = match random.below(8) {
+            0 => exact - 1,
+            1 => random.below(exact),
+            2 => exact + random.within(1, 100),
+            3 => writing::room(mask.width.min(500), mask.height) as usize,
+            _ => exact,
+        };
+        self.comparison.write(&mask, out)
+    }
+
     /// A long mask or one in a layout of real files, damaged at times; one with a token mistyped; or any text.
     fn drawn(&mut self) -> Tried {
         let random = &mut self.random;
@@ -418,7 +498,11 @@ impl Trials<'_> {
             16..=19 => texts::mistyped(random),
             _ => drawn_text(random),
         };
-        self.every_call(&text)
+        self.every_call(&text)?;
+        if self.random.once_in(4) {
+            self.drawn_mask()?;
+        }
+        Ok(())
     }
 
     /// The header with a name buffer of the original's length.
@@ -744,6 +828,33 @@ mod tests {
         }
     }
 
+    /// By their family, and drawn.
+    #[test]
+    fn masks_written_amiss_are_caught() {
+        for slip in Fault::WRITTEN {
+            let interface = mock::with_fault(Fault::Written(slip));
+            assert!(trials(&interface).masks().is_err(), "{slip:?} passed unseen");
+            let mut trials = trials(&interface);
+            assert!((0..TEXTS).any(|_| trials.drawn_mask().is_err()), "{slip:?} not drawn");
+        }
+    }
+
+    /// By their family alone, and by drawn masks alone.
+    #[test]
+    fn masks_reach_all_their_numbers() {
+        let interface = mock::without_fault();
+        let mut family = trials(&interface);
+        family.masks().unwrap_or_else(|e| panic!("{e}"));
+        let mut drawn = trials(&interface);
+        for _ in 0..TEXTS / 10 {
+            drawn.drawn_mask().unwrap_or_else(|e| panic!("{e}"));
+        }
+        for trials in [family, drawn] {
+            let unreached = trials.comparison.tally.unreached();
+            assert!(!unreached.iter().any(|number| number.starts_with("write")), "{unreached:?}");
+        }
+    }
+
     #[test]
     fn faults_in_starts_are_caught_and_named() {
         let foreign = Fault::FOREIGN_STARTS.map(|fault| (fault, "expected: result 9"));
@@ -797,7 +908,7 @@ mod tests {
         let mut trials = trials(&interface);
         trials.faults_of_integers().unwrap_or_else(|e| panic!("{e}"));
         let mut unreached = trials.comparison.tally.unreached();
-        unreached.retain(|number| !number.starts_with("next_byte"));
+        unreached.retain(|number| number.starts_with("read_"));
         // The array line, and bytes after the semicolon.
         assert_eq!(unreached, ["read_header 5", "read_image 5", "read_image 8"]);
     }

@@ -15,7 +15,7 @@ use Rattle.text.specs.Outcome.{Outcome, accepted, refused, unplaced, outcome}
 use Rattle.header.specs.Header.{Head, header, header-local, header-firm}
 use Rattle.image.specs.Reading.{Reading, reading, picture}
 use Rattle.ink.specs.Ink.{inkOf}
-use Rattle.image.specs.Limited.{cellsOf, pictured, afterHeader, limited}
+use Rattle.image.specs.Limited.{cellsOf, pictured, afterHeader, limited, within}
 use Rattle.printing.specs.Printed.{acceptedText, printed}
 use Rattle.listing.specs.Listing.{textLimit, cellLimit, inkIn, listedOf, listedText, listedWithin, listed, listing}
 use Rattle.grammar.specs.Lang.{_·_}
@@ -61,7 +61,7 @@ module _ (text name cells : List ℕ) (h : Head) where
 -- a header that is refused, or is h: the listing is the reading's, into the first cells lent
 module _ (text name cells : List ℕ) (h : Head) (short : length text ≤ textLimit) (small : cellsOf h ≤ cellLimit) where
   so-far : (x : Result Head) → header (length name) text start ≡ x → listed text name cells ≡ listedOf (afterHeader cellLimit text name cells x)
-  unfolding listedWithin limited
+  unfolding listedWithin within limited
   so-far x u = rw (le-ltb textLimit (length text) short, u)
 
   read-so : (g : Head) (e : TextLocation) → g ≡ h → afterHeader cellLimit text name cells (ok g e) ≡ pictured (reading text name (take (cellsOf h) cells)) (drop (cellsOf h) cells)

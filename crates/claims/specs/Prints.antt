@@ -21,8 +21,8 @@ use Rattle.header.specs.Header.{Head, header, header-local}
 use Rattle.rows.specs.Rows.{whole, whole-local}
 use Rattle.image.specs.Reading.{picture, reading}
 use Rattle.ink.specs.Ink.{inkOf}
-use Rattle.image.specs.Limited.{cellsOf, unpictured, pictured, afterHeader, limited}
-use Rattle.listing.specs.Listing.{inkIn, unread, listedOf, Listed, listedWithin, listed, listing}
+use Rattle.image.specs.Limited.{cellsOf, unpictured, pictured, afterHeader, limited, unread, within}
+use Rattle.listing.specs.Listing.{inkIn, listedOf, Listed, listedWithin, listed, listing}
 use Rattle.grammar.specs.Lang.{_·_}
 use Rattle.grammar.specs.Grammar.{Mask, Side, Define, Hotspot, Header, Format}
 use Rattle.grammar.specs.Devices.{made}
@@ -109,7 +109,7 @@ refused-header text name (stop c e) q s n = rw q at (printable text name [] s)
 refused-header text name (bad c e) q s n = rw q at (printable text name [] s)
 
 pub prints : (text name cells : List ℕ) → Lines (listed text name cells .told) (listed text name cells .ink) (listing text name cells)
-unfolding listedWithin limited afterHeader
+unfolding listedWithin within limited afterHeader
 prints text name cells = let (p, k) = small in lines (listed text name cells .told) (listed text name cells .ink) p k
   where
     Small : Listed → Type 0
@@ -122,7 +122,7 @@ prints text name cells = let (p, k) = small in lines (listed text name cells .to
         let first = take (cellsOf d) cells in
         (printable text name first s, ink-small text name first (reading text name first .pixels ++ drop (cellsOf d) cells) (reading text name first .answer) refl)
 
-    go : (b : Bool) → ltb 65536 (length text) ≡ b → (r : Result Head) → header (length name) text start ≡ r → Small (pick b (unread (unplaced 41) name cells) (listedOf (afterHeader 65536 text name cells r)))
+    go : (b : Bool) → ltb 65536 (length text) ≡ b → (r : Result Head) → header (length name) text start ≡ r → Small (listedOf (pick b (unread (unplaced 41) name cells) (afterHeader 65536 text name cells r)))
     go true q r k = (omega arith, omega arith)
     go false q (ok d e) k = large d (ltb 65536 (cellsOf d)) (ltb-false 65536 (length text) q)
     go false q (stop c e) k = (refused-header text name (stop c e) k (ltb-false 65536 (length text) q) (λ h e x. (let z : _≡_ {A = ℕ} 0 1 = cc in omega arith)), omega arith)

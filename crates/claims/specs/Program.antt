@@ -1,5 +1,6 @@
--- THE CLAIMS ON THE PROGRAM: what it prints for document 01's masks, and of every accepted text and its cuts. To believe them, read Listing
--- (what is printed of a text, with the limits) beside what Claims names, and this file. Every proof below is a citation or a computation.
+-- THE CLAIMS ON THE PROGRAM: what it prints for document 01's masks, and of every accepted text and its cuts.
+-- To believe them, read Listing (what is printed of a text, with the limits) and what it names, beside what Claims
+-- names, and this file. Every proof below is a citation or a computation.
 use mathlib.Core.Path.{_≡_, refl}
 use mathlib.Core.Logic.{_↔_}
 use Prim.Native.Nat.{ℕ, _*_, _≤_, _<_}
@@ -26,7 +27,7 @@ use Rattle.image.specs.Reading.{picture, reading}
 use Rattle.print.specs.Decimal.{digits}
 use Rattle.print.specs.Output.{joined}
 use Rattle.ink.specs.Ink.{inkOf}
-use Rattle.image.specs.Limited.{cellsOf, afterHeader, limited}
+use Rattle.image.specs.Limited.{cellsOf, afterHeader, limited, within}
 use Rattle.printing.specs.Printed.{hotText, acceptedText, printed}
 use Rattle.listing.specs.Listing.{Listed, listedWithin, listed, listing}
 use Rattle.grammar.specs.Grammar.{Mask, Header, Format}
@@ -40,7 +41,7 @@ use Rattle.claims.specs.Distinct
 
 -- 1. MASKS. Each of document 01's masks, as a row of the table: what is printed, the name buffer and the cells, by computing.
 pub masks : map given table ≡ map wanted table
-unfolding after rest _>>=_ give want need one run fork eot isBlank isLoose byte skip fixed gap lineEnd leading token span hexOf hexv hexDigit isMark hexStart hexDigits hexUnit isDigit digitsFrom restOf endsWith before positive widthLine element arrayLine opening header stored item items brace closing tail trailer logOf cell painted whole picture reading digits joined afterHeader limited listedWithin
+unfolding after rest _>>=_ give want need one run fork eot isBlank isLoose byte skip fixed gap lineEnd leading token span hexOf hexv hexDigit isMark hexStart hexDigits hexUnit isDigit digitsFrom restOf endsWith before positive widthLine element arrayLine opening header stored item items brace closing tail trailer logOf cell painted whole picture reading digits joined afterHeader limited within listedWithin
 masks = refl
 
 -- 2. LISTINGS. A text that writes m, that the limits let through, with cells enough for the picture; and its first n bytes.

@@ -1,4 +1,4 @@
--- The reading within a limit from its parts: the header, then nothing, or the picture into the first cells.
+-- The reading within the limits from its parts: nothing; or the header, then nothing, or the picture into the first cells.
 use mathlib.Core.Path.{_≡_, refl, sym, ap, _∙_}
 use Prim.Native.Nat.{ℕ, _*_, _≤_, _<_, min}
 use native.Mathlib.Omega.{arith}
@@ -27,10 +27,11 @@ use Rattle.image.specs.declared.ImageRead.{ImageRead}
 use Rattle.image.specs.declared.ImageRead.the-variants.{Read as ImageIs, Refused as ImageRefused, DimensionMismatch}
 use Rattle.image.specs.declared.LimitedRead.{LimitedRead}
 use Rattle.image.specs.declared.LimitedRead.the-variants.{Read, Refused}
+use Rattle.image.specs.declared.LimitedAnswer.{LimitedAnswer}
 use Rattle.cells.specs.Cells.{painted, count}
 use Rattle.rows.specs.Rows.{whole}
 use Rattle.image.specs.Reading.{picture, reading, toldImage, Pictured}
-use Rattle.image.specs.Limited.{unpictured, pictured, toldLimited, limitedReading, limitedOf, afterHeader, limited, Bounded, Limited}
+use Rattle.image.specs.Limited.{unpictured, pictured, toldLimited, limitedReading, limitedOf, afterHeader, limited, Bounded, Limited, Within, within-long, within-short}
 use Rattle.ink.proofs.Ink.{size-fits, size-within, first-cells, other-cells}
 use Rattle.image.proofs.Whole.{head-is, name-fits, same-reading}
 
@@ -72,7 +73,7 @@ module _ (limit : ℕ) (d : XbmHeaderData) (t : List ℕ) (p : TextLocation) (le
 
 pub ruleset bounded·laws = (bounded-large, bounded-picture, size-fits, size-within)
 
--- ---- the two ways through
+-- ---- the header, and the two ways from it
 
 module _ (limit : ℕ) (t name name′ lent : List ℕ) {h : HeaderAnswer} (k : Headed t name name′ h) where
   module _ {d : XbmHeaderData} {p : TextLocation} (e : h .header ≡ HeadRead d p) where
@@ -113,9 +114,9 @@ module _ (limit : ℕ) (t name name′ lent : List ℕ) {h : HeaderAnswer} (k : 
     unfolding afterHeader
     small-so l = after-so ∙ rw (le-ltb limit (d .width * d .height) l)
 
-  pub within-read : {later : List ℕ} {d : XbmHeaderData} {p : TextLocation} {r : LimitedRead} → h .header ≡ HeadRead d p → Bounded limit d t p lent later r
+  pub headed-read : {later : List ℕ} {d : XbmHeaderData} {p : TextLocation} {r : LimitedRead} → h .header ≡ HeadRead d p → Bounded limit d t p lent later r
       → Limited limit t name lent name′ later (record { image = r; name = h .name })
-  within-read {later} {d} {p} {r} e m = record { all = go (decLt limit (d .width * d .height)); fits = name-fits t name name′ k e }
+  headed-read {later} {d} {p} {r} e m = record { all = go (decLt limit (d .width * d .height)); fits = name-fits t name name′ k e }
     where
       go : Dec (limit < d .width * d .height) → limitedReading (record { image = r; name = h .name }) name′ later ≡ limited limit t name lent
       go (yes l) = let (x, y) = m .large l in same-reading _ _ (ap (toldLimited (take (h .name) name′)) x) refl (k .symbol) y ∙ sym (large-so e l)
@@ -124,8 +125,8 @@ module _ (limit : ℕ) (t name name′ lent : List ℕ) {h : HeaderAnswer} (k : 
           same-reading _ _ (m .answer (omega arith) (take (h .name) name′) ∙ answer-so e first) (name-so e first) (symbol-so e first) (m .stored (omega arith) ∙ ap (λ (x : List ℕ). x ++ drop (d .width * d .height) lent) (pixels-so e first))
           ∙ sym (small-so e (omega arith))
 
-  pub within-refused : {x : XbmDecodeError} {f : Refusal} → h .header ≡ HeadRefused x → f ≡ refusalOf x → Limited limit t name lent name′ lent (record { image = Refused f; name = h .name })
-  within-refused {x} {f} e g = record { all = rw g (go (header (length name) t start) refl said); fits = less (header (length name) t start) said (k .size) }
+  pub headed-refused : {x : XbmDecodeError} {f : Refusal} → h .header ≡ HeadRefused x → f ≡ refusalOf x → Limited limit t name lent name′ lent (record { image = Refused f; name = h .name })
+  headed-refused {x} {f} e g = record { all = rw g (go (header (length name) t start) refl said); fits = less (header (length name) t start) said (k .size) }
     where
       said : toldError x ≡ shown (header (length name) t start)
       said = rw e at (k .answer)
@@ -146,4 +147,15 @@ module _ (limit : ℕ) (t name name′ lent : List ℕ) {h : HeaderAnswer} (k : 
       less (stop c m) w s = omega arith
       less (bad c m) w s = omega arith
 
-pub ruleset within·laws = (within-read, within-refused)
+pub ruleset headed·laws = (headed-read, headed-refused)
+
+-- ---- before the header
+
+module _ (bytes most : ℕ) (t name lent : List ℕ) where
+  pub reads-none : bytes < length t → Within bytes most t name lent name lent (record { image = Refused (Unplaced 41); name = 0 })
+  reads-none h = record { all = sym (within-long bytes most t name lent h); fits = omega arith }
+
+  pub reads-all : length t ≤ bytes → {name′ later : List ℕ} {r : LimitedAnswer} → Limited most t name lent name′ later r → Within bytes most t name lent name′ later r
+  reads-all h k = record { all = k .all ∙ sym (within-short bytes most t name lent h); fits = k .fits }
+
+pub ruleset within·laws = (reads-none, reads-all)

@@ -1,6 +1,6 @@
 // Pixels from a text: the header, then the rows of cells, into lent buffers.
 ghost use mathlib.Core.Path.{_≡_};
-ghost use Rattle.image.specs.Limited.{limitedOf, Bounded, Limited};
+ghost use Rattle.image.specs.Limited.{limitedOf, Bounded, Limited, Within};
 ghost use Rattle.image.specs.Reading.{Pictured, Imaged};
 use error::Refusal;
 use error::XbmDecodeError;
@@ -27,7 +27,7 @@ pub struct ImageAnswer {
     pub name: usize,
 }
 
-// The same within a limit on the cells, a refusal by its number.
+// The same within limits, a refusal by its number.
 pub enum LimitedRead {
     Read(XbmHeaderData),
     Refused(Refusal),
@@ -84,7 +84,7 @@ fn limited_of(image: ImageRead) -> LimitedRead
 }
 
 // The rows of an accepted header into the first width times height cells, if these are not above the limit.
-fn read_within(
+fn read_bounded(
     text: &[u8],
     place: TextLocation,
     header: XbmHeaderData,
@@ -102,14 +102,14 @@ fn read_within(
 }
 
 // The pixels of a text, its header first, into the first width times height of the cells lent; above the limit on these only the header is read.
-pub fn read_limited(text: &[u8], name: &mut [u8], cells: &mut [u8], limit: u64) -> LimitedAnswer
+fn read_limited(text: &[u8], name: &mut [u8], cells: &mut [u8], limit: u64) -> LimitedAnswer
     ensures { λ r. ⌜ Limited limit (now (text .entry)) (now (name .entry)) (now (cells .entry)) (now (name .exit)) (now (cells .exit)) r ⌝ }
 {
     let read = read_xbm_header(text, name);
     let header = read.header;
     match header {
         HeaderRead::Read(d, place) => LimitedAnswer {
-            image: read_within(text, place, d, cells, limit),
+            image: read_bounded(text, place, d, cells, limit),
             name: read.name,
         },
         HeaderRead::Refused(e) => LimitedAnswer {
@@ -117,4 +117,24 @@ pub fn read_limited(text: &[u8], name: &mut [u8], cells: &mut [u8], limit: u64) 
             name: read.name,
         },
     }
+}
+
+// The same, with a limit on the text too: one that is longer is 41, and nothing of it is read.
+pub fn read_within(
+    text: &[u8],
+    name: &mut [u8],
+    cells: &mut [u8],
+    text_limit: usize,
+    cell_limit: u64,
+) -> LimitedAnswer
+    ensures { λ r. ⌜ Within «text_limit» «cell_limit» (now (text .entry)) (now (name .entry)) (now (cells .entry))
+        (now (name .exit)) (now (cells .exit)) r ⌝ }
+{
+    if text.len() > text_limit {
+        return LimitedAnswer {
+            image: LimitedRead::Refused(Refusal::Unplaced(41)),
+            name: 0,
+        };
+    }
+    read_limited(text, name, cells, cell_limit)
 }

@@ -1,9 +1,8 @@
 -- What a step of the code says of the listing.
 use mathlib.Core.Path.{_≡_, refl, ap, _∙_}
-use Prim.Native.Nat.{ℕ, _*_, _≤_, _<_}
+use Prim.Native.Nat.{ℕ, _*_}
 use mathlib.Core.List.{List, []}
-use lib.ListN.{length, take}
-use borrow.Author.Tests.{lt-ltb, le-ltb}
+use lib.ListN.{take}
 use Rattle.error.specs.declared.Refusal.{Refusal}
 use Rattle.error.specs.declared.Refusal.the-variants.{Placed, Unplaced}
 use Rattle.error.specs.Error.{toldRefusal}
@@ -12,7 +11,7 @@ use Rattle.header.specs.Answer.{headOf}
 use Rattle.ink.specs.Ink.{inkOf}
 use Rattle.image.specs.declared.LimitedRead.the-variants.{Read, Refused as NotRead}
 use Rattle.image.specs.declared.LimitedAnswer.{LimitedAnswer}
-use Rattle.image.specs.Limited.{limitedReading, Limited}
+use Rattle.image.specs.Limited.{limitedReading, Within}
 use Rattle.print.specs.Output.{Output, output, puts}
 use Rattle.print.proofs.Laws.{joined·laws}
 use Rattle.listing.specs.declared.ListAnswer.{ListAnswer}
@@ -33,30 +32,25 @@ pub ruleset text·laws = (text-accepted, text-refused, joined·laws)
 
 -- ---- a text
 
-module _ (bytes most : ℕ) (text name cells : List ℕ) where
-  pub answered-long : bytes < length text → Answered bytes most text name cells name cells (Refused (Unplaced 41))
+module _ (bytes most : ℕ) (text name cells : List ℕ) {name′ cells′ : List ℕ} {a : LimitedAnswer} (k : Within bytes most text name cells name′ cells′ a) where
+  listed-so : listedOf (limitedReading a name′ cells′) ≡ listedWithin bytes most text name cells
   unfolding listedWithin
-  answered-long h = record { prints = rw (lt-ltb bytes (length text) h); named = rw (lt-ltb bytes (length text) h); filled = rw (lt-ltb bytes (length text) h) }
+  listed-so = ap listedOf (k .all)
 
-  module _ (h : length text ≤ bytes) {name′ cells′ : List ℕ} {a : LimitedAnswer} (k : Limited most text name cells name′ cells′ a) where
-    listed-so : listedOf (limitedReading a name′ cells′) ≡ listedWithin bytes most text name cells
-    unfolding listedWithin
-    listed-so = rw (le-ltb bytes (length text) h) (ap listedOf (k .all))
+  answered : (r : ListAnswer) → answerText r ≡ listedText (listedOf (limitedReading a name′ cells′)) → Answered bytes most text name cells name′ cells′ r
+  answered r e = record { prints = e ∙ ap listedText listed-so; named = ap (λ (l : Listed). l .symbol) listed-so; filled = ap (λ (l : Listed). l .cells) listed-so }
 
-    answered : (r : ListAnswer) → answerText r ≡ listedText (listedOf (limitedReading a name′ cells′)) → Answered bytes most text name cells name′ cells′ r
-    answered r e = record { prints = e ∙ ap listedText listed-so; named = ap (λ (l : Listed). l .symbol) listed-so; filled = ap (λ (l : Listed). l .cells) listed-so }
+  pub answered-read : {d : XbmHeaderData} {n : ℕ} → a .image ≡ Read d → n ≡ inkOf (take (d .width * d .height) cells′) → Answered bytes most text name cells name′ cells′ (Accepted d n)
+  answered-read {d} {n} m e = answered (Accepted d n) (rw (m, e))
 
-    pub answered-read : {d : XbmHeaderData} {n : ℕ} → a .image ≡ Read d → n ≡ inkOf (take (d .width * d .height) cells′) → Answered bytes most text name cells name′ cells′ (Accepted d n)
-    answered-read {d} {n} m e = answered (Accepted d n) (rw (m, e))
+  pub answered-refused : {e : Refusal} → a .image ≡ NotRead e → Answered bytes most text name cells name′ cells′ (Refused e)
+  answered-refused {e} m = answered (Refused e) (rw m (no-ink e))
+    where
+      no-ink : (e : Refusal) → printed (toldRefusal e) 0 ≡ printed (toldRefusal e) (inkIn (toldRefusal e) cells′)
+      no-ink (Placed c p) = refl
+      no-ink (Unplaced c) = refl
 
-    pub answered-refused : {e : Refusal} → a .image ≡ NotRead e → Answered bytes most text name cells name′ cells′ (Refused e)
-    answered-refused {e} m = answered (Refused e) (rw m (no-ink e))
-      where
-        no-ink : (e : Refusal) → printed (toldRefusal e) 0 ≡ printed (toldRefusal e) (inkIn (toldRefusal e) cells′)
-        no-ink (Placed c p) = refl
-        no-ink (Unplaced c) = refl
-
-pub ruleset answered·laws = (answered-long, answered-read, answered-refused)
+pub ruleset answered·laws = (answered-read, answered-refused)
 
 -- ---- put into the output
 

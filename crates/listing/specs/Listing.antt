@@ -2,16 +2,14 @@
 use Prim.Native.Nat.{ℕ}
 use mathlib.Core.Path.{_≡_}
 use mathlib.Core.List.{List, []}
-use lib.ListN.{length, take}
-use lib.Dec.{ltb}
-use Rattle.text.specs.Place.{pick}
+use lib.ListN.{take}
 use Rattle.text.specs.Outcome.{Outcome, accepted, refused, unplaced}
 use Rattle.error.specs.Error.{toldRefusal}
 use Rattle.header.specs.Header.{Head}
 use Rattle.header.specs.Answer.{headOf}
 use Rattle.ink.specs.Ink.{inkOf}
 use Rattle.image.specs.Reading.{Reading}
-use Rattle.image.specs.Limited.{cellsOf, limited}
+use Rattle.image.specs.Limited.{cellsOf, within}
 use Rattle.print.specs.Output.{output, puts}
 use Rattle.printing.specs.Printed.{printed}
 use Rattle.listing.specs.declared.ListAnswer.{ListAnswer}
@@ -39,16 +37,13 @@ inkIn (accepted h) cells = inkOf (take (cellsOf h) cells)
 inkIn (refused c p) cells = 0
 inkIn (unplaced c) cells = 0
 
--- a reading, listed; nothing read
+-- a reading, listed
 abbrev pub listedOf : Reading → Listed
 listedOf r = record { told = r .answer; ink = inkIn (r .answer) (r .pixels); symbol = r .symbol; cells = r .pixels }
 
-abbrev pub unread : Outcome Head → List ℕ → List ℕ → Listed
-unread a symbol cells = record { told = a; ink = 0; symbol = symbol; cells = cells }
-
--- before the header: a text above its limit is 41; then the reading within the limit on the cells
+-- the reading within both limits, listed: a text above its own is 41
 unfoldable pub listedWithin : ℕ → ℕ → List ℕ → List ℕ → List ℕ → Listed
-listedWithin bytes most text name cells = pick (ltb bytes (length text)) (unread (unplaced 41) name cells) (listedOf (limited most text name cells))
+listedWithin bytes most text name cells = listedOf (within bytes most text name cells)
 
 -- with the program's limits
 abbrev pub listed : List ℕ → List ℕ → List ℕ → Listed

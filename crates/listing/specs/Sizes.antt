@@ -1,23 +1,20 @@
 -- How long a listing can be, and how much of a text decides it: what the buffers of a program must have room for.
 use Prim.Native.Nat.{ℕ, _+_, _≤_, _<_}
 use native.Mathlib.Omega.{arith}
-use native.Mathlib.Decide.{decLt}
-use mathlib.Core.Path.{_≡_, sym, ap, _∙_}
+use mathlib.Core.Path.{_≡_, ap}
 use mathlib.Core.Option.{Option, none, some}
 use mathlib.Core.List.{List}
-use lib.ListN.{length, take, length-take}
-use lib.Seq.{take-all}
+use lib.ListN.{length, take}
 use lib.IntN.{ℤ}
-use borrow.Author.Tests.{lt-ltb, le-ltb}
 use Rattle.text.specs.Ascii.{ascii}
 use Rattle.text.specs.declared.TextLocation.{TextLocation}
 use Rattle.text.specs.Outcome.{Outcome, accepted, refused, unplaced}
 use Rattle.header.specs.Header.{Head}
-use Rattle.image.specs.Limited.{limited}
+use Rattle.image.specs.Limited.{unread, limited, within-long, within-short, within-beginning}
 use Rattle.print.specs.Output.{length-joined-two, length-joined-three, length-joined-four}
 use Rattle.print.specs.Decimal.{decimal, signed, digits-short, signed-short}
 use Rattle.printing.specs.Printed.{fieldText, hotText, sidesText, hotspotText, inkText, acceptedText, placeText, printed}
-use Rattle.listing.specs.Listing.{textLimit, cellLimit, unread, listedOf, listedWithin, listed, listing}
+use Rattle.listing.specs.Listing.{textLimit, cellLimit, listedOf, listedWithin, listed, listing}
 
 -- ---- the output
 
@@ -70,19 +67,16 @@ listing-short text name cells = printed-short (listed text name cells .told) (li
 -- ---- the text
 
 -- a text above the limit is 41
-pub listed-long : (text name cells : List ℕ) → textLimit < length text → listed text name cells ≡ unread (unplaced 41) name cells
+pub listed-long : (text name cells : List ℕ) → textLimit < length text → listed text name cells ≡ listedOf (unread (unplaced 41) name cells)
 unfolding listedWithin
-listed-long text name cells h = rw (lt-ltb textLimit (length text) h)
+listed-long text name cells h = ap listedOf (within-long textLimit cellLimit text name cells h)
 
 -- any other is read, within the limit on the cells
 pub listed-short : (text name cells : List ℕ) → length text ≤ textLimit → listed text name cells ≡ listedOf (limited cellLimit text name cells)
 unfolding listedWithin
-listed-short text name cells h = rw (le-ltb textLimit (length text) h)
+listed-short text name cells h = ap listedOf (within-short textLimit cellLimit text name cells h)
 
 -- the first n bytes of a text are listed as the text is, if n is above the limit
 pub listed-beginning : (text name cells : List ℕ) (n : ℕ) → textLimit < n → listed (take n text) name cells ≡ listed text name cells
-listed-beginning text name cells n h = go (decLt n (length text))
-  where
-    go : Dec (n < length text) → listed (take n text) name cells ≡ listed text name cells
-    go (yes l) = listed-long (take n text) name cells (omega (arith, length-take n text)) ∙ sym (listed-long text name cells (omega arith))
-    go (no l) = ap (λ (t : List ℕ). listed t name cells) (take-all n text (omega arith))
+unfolding listedWithin
+listed-beginning text name cells n h = ap listedOf (within-beginning textLimit cellLimit text name cells n h)

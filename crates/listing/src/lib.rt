@@ -5,7 +5,7 @@ ghost use Rattle.listing.specs.Listing.{answerText, Answered, Lists};
 use error::Refusal;
 use header::XbmHeaderData;
 use image::LimitedRead;
-use image::read_limited;
+use image::read_within;
 use ink::picture_ink;
 use printing::put_accepted;
 use printing::put_refusal;
@@ -26,10 +26,7 @@ fn list_text(
 ) -> ListAnswer
     ensures { λ r. ⌜ Answered «text_limit» «cell_limit» (now (text .entry)) (now (name .entry)) (now (cells .entry)) (now (name .exit)) (now (cells .exit)) r ⌝ }
 {
-    if text.len() > text_limit {
-        return ListAnswer::Refused(Refusal::Unplaced(41));
-    }
-    let read = read_limited(text, name, cells, cell_limit);
+    let read = read_within(text, name, cells, text_limit, cell_limit);
     let image = read.image;
     match image {
         LimitedRead::Read(d) => ListAnswer::Accepted(d, picture_ink(cells, d.width, d.height)),

@@ -24,7 +24,7 @@ pub came-size : (n m : ℕ) (text : List ℕ) → m ≡ min n (length text) → 
 came-size n m text e = taken-size m text (omega (arith, e))
 
 -- no more is taken than there is
-taken-min : (n : ℕ) (l : List ℕ) → take (min n (length l)) l ≡ take n l
+pub taken-min : (n : ℕ) (l : List ℕ) → take (min n (length l)) l ≡ take n l
 taken-min zero l = ap (λ (m : ℕ). take m l) (zero-min (length l))
 taken-min (suc n) [] = ap (λ (m : ℕ). take m []) (min-zero (suc n))
 taken-min (suc n) (x ∷ l) = ap (λ (m : ℕ). take m (x ∷ l)) (suc-min-suc n (length l)) ∙ ap (λ (t : List ℕ). x ∷ t) (taken-min n l)

@@ -7,9 +7,9 @@ use listing::list;
 use symbol::MAX_IDENTIFIER_LENGTH;
 
 // The limits of document 01: bytes of a text, cells of a picture.
-const TEXT_LIMIT: usize = 65536;
+pub const TEXT_LIMIT: usize = 65536;
 
-const CELL_LIMIT: u64 = 65536;
+pub const CELL_LIMIT: u64 = 65536;
 
 // One byte more than a text may have, so that a longer one is seen.
 pub const TEXT_SIZE: usize = TEXT_LIMIT + 1;

@@ -21,7 +21,7 @@ use Rattle.rows.specs.Rows.{whole}
 use Rattle.image.specs.Reading.{picture, reading}
 use Rattle.print.specs.Decimal.{digits}
 use Rattle.print.specs.Output.{joined}
-use Rattle.image.specs.Limited.{afterHeader, limited}
+use Rattle.image.specs.Limited.{afterHeader, limited, within}
 use Rattle.listing.specs.Listing.{listedWithin}
 use Rattle.claims.specs.Masks.{Row, given, wanted}
 
@@ -63,5 +63,5 @@ table =
     ∷ []
 
 pub rows : map given table ≡ map wanted table
-unfolding after rest _>>=_ give want need one run fork eot isBlank isLoose byte skip fixed gap lineEnd leading token span hexOf hexv hexDigit isMark hexStart hexDigits hexUnit isDigit digitsFrom restOf endsWith before positive widthLine element arrayLine opening header stored item items brace closing tail trailer logOf cell painted whole picture reading digits joined afterHeader limited listedWithin
+unfolding after rest _>>=_ give want need one run fork eot isBlank isLoose byte skip fixed gap lineEnd leading token span hexOf hexv hexDigit isMark hexStart hexDigits hexUnit isDigit digitsFrom restOf endsWith before positive widthLine element arrayLine opening header stored item items brace closing tail trailer logOf cell painted whole picture reading digits joined afterHeader limited within listedWithin
 rows = refl

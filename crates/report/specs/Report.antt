@@ -3,8 +3,9 @@ use Prim.Native.Nat.{ℕ}
 use mathlib.Core.Option.{Option, none, some}
 use mathlib.Core.List.{List, [], _∷_}
 use lib.IntN.{ℤ, pos}
+use lib.Dec.{eqb}
 use Rattle.text.specs.declared.TextLocation.{TextLocation}
-use Rattle.text.specs.Place.{nowhere}
+use Rattle.text.specs.Place.{pick, nowhere}
 use Rattle.text.specs.Outcome.{Outcome, accepted, refused, unplaced, Ended, ending-at}
 use Rattle.error.specs.declared.Refusal.{Refusal}
 use Rattle.error.specs.declared.Refusal.the-variants.{Placed, Unplaced}
@@ -53,6 +54,10 @@ flagOf (At x y) = 1
 abbrev pub coordinates : Hotspot → List ℤ
 coordinates Absent = pos 0 ∷ pos 0 ∷ []
 coordinates (At x y) = x ∷ y ∷ []
+
+-- a hotspot given as a flag and two numbers: none exactly if the flag is 0
+abbrev pub hotGiven : ℕ → ℤ → ℤ → Option (ℤ × ℤ)
+hotGiven has x y = pick (eqb has 0) none (some (x, y))
 
 -- byte, line and column of the place, the sides, the name's length, the hotspot's flag, no data byte, the place's start, and 0
 abbrev pub reportOf : Summary → List ℕ

@@ -1,6 +1,7 @@
-// What a call tells, written as numbers in the order of include/xbm.h: the report of a header or a picture, and its hotspot.
+// What a call tells, written as numbers in the order of include/xbm.h: the report of a header or a picture, and its hotspot; and a hotspot given so.
 ghost use mathlib.Core.Path.{_≡_};
-ghost use Rattle.report.specs.Report.{flagOf, coordinates, reportOf};
+ghost use Rattle.header.specs.Answer.{hotOf};
+ghost use Rattle.report.specs.Report.{flagOf, coordinates, hotGiven, reportOf};
 use header::Hotspot;
 use text::TextLocation;
 
@@ -35,6 +36,16 @@ pub fn write_hotspot(hotspot: Hotspot, out: &mut [i32; 2])
             *out = [x, y];
         }
     }
+}
+
+// A hotspot given in numbers: none exactly if the flag is 0.
+pub fn hotspot_given(has: u32, x: i32, y: i32) -> Hotspot
+    ensures { λ r. ⌜ hotOf r ≡ hotGiven has x y ⌝ }
+{
+    if has == 0 {
+        return Hotspot::Absent;
+    }
+    Hotspot::At(x, y)
 }
 
 // All ten numbers of the report.

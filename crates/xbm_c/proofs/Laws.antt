@@ -1,23 +1,32 @@
--- The calls that read a header or a picture: what the reader answers is told, and the buffers are as it left them.
+-- The calls that read a header or a picture, and the one that writes: what the reader or the writer answers is told, and the buffers are as it left them.
 use mathlib.Core.Path.{_≡_, refl, ap, _∙_}
 use Prim.Native.Nat.{ℕ}
 use native.Mathlib.Omega.{arith}
+use mir.Syntax.{w32}
+use mir.Val.{SFits, toZ, ofZ}
+use mir.ValLaws.{toZ-ofZ}
+use mathlib.Core.Option.{Option}
 use mathlib.Core.List.{List, []}
 use lib.ListN.{length, take, length-take}
 use lib.IntN.{ℤ}
 use Rattle.text.specs.Place.{start}
 use Rattle.text.specs.Outcome.{Outcome, Ended, shown}
+use Rattle.header.specs.declared.Hotspot.{Hotspot}
 use Rattle.header.specs.declared.HeaderRead.{HeaderRead}
 use Rattle.header.specs.declared.HeaderRead.the-variants.{Read as HeadRead, Refused as HeadRefused}
 use Rattle.header.specs.declared.HeaderAnswer.{HeaderAnswer}
 use Rattle.header.specs.Header.{Head, header}
-use Rattle.header.specs.Answer.{toldHeader, Headed}
+use Rattle.header.specs.Answer.{hotOf, toldHeader, Headed}
 use Rattle.image.specs.declared.ImageRead.{ImageRead}
 use Rattle.image.specs.declared.ImageRead.the-variants.{Read, Refused, DimensionMismatch}
 use Rattle.image.specs.declared.ImageAnswer.{ImageAnswer}
 use Rattle.image.specs.Reading.{Reading, toldImage, Imaged}
 use Rattle.report.specs.declared.Summary.{Summary}
-use Rattle.report.specs.Report.{ofHeader, ofImage, coordinates, reportOf}
+use Rattle.report.specs.Report.{ofHeader, ofImage, coordinates, hotGiven, reportOf}
+use Rattle.writer.specs.declared.XbmWritten.{XbmWritten}
+use Rattle.writer.specs.declared.XbmWritten.the-variants.{Text, Refused as Unwritten}
+use Rattle.writer.specs.Writing.{Writing, writing, toldWritten, toldWriting}
+use Rattle.xbm_c.specs.Write.{writeNumber, writeLength, writingGiven, WriteCall}
 use Rattle.xbm_c.specs.Told.{headerTold, imageTold, Tells, HeaderCall, ImageCall}
 
 -- what is told does not depend on the name's bytes
@@ -55,3 +64,27 @@ image-call {text} {name} {pixels} {name′} {pixels′} {report} {hotspot} {a} {
     }
 
 pub ruleset call·laws = (header-call, image-call)
+
+-- ---- writing
+
+module _ (name : List ℕ) (w h has : ℕ) (x y : ℤ) (cells out : List ℕ) {out′ : List ℕ} (spot : Hotspot) (r : XbmWritten)
+    (a : SFits w32 x) (b : SFits w32 y) (g : hotOf spot ≡ hotGiven has (toZ w32 (ofZ w32 x)) (toZ w32 (ofZ w32 y))) (e : toldWriting r out′ ≡ writing name w h (hotOf spot) cells out) where
+  written : toldWriting r out′ ≡ writingGiven name w h has x y cells out
+  written =
+      let s : hotOf spot ≡ hotGiven has x y = rw (← toZ-ofZ w32 x a, ← toZ-ofZ w32 y b) g in
+      e ∙ ap (λ (o : Option (ℤ × ℤ)). writing name w h o cells out) s
+
+  call : WriteCall name w h has x y cells out out′ (writeLength (toldWritten r)) (writeNumber (toldWritten r))
+  call = record {
+    number = ap (λ (o : Writing). writeNumber (o .answer)) written;
+    length = ap (λ (o : Writing). writeLength (o .answer)) written;
+    bytes = ap (λ (o : Writing). o .bytes) written;
+  }
+
+  pub write-text : {n : ℕ} → r ≡ Text n → WriteCall name w h has x y cells out out′ n 0
+  write-text k = rw k at call
+
+  pub write-refused : {c : ℕ} → r ≡ Unwritten c → WriteCall name w h has x y cells out out′ 0 c
+  write-refused k = rw k at call
+
+pub ruleset write·laws = (write-text, write-refused)

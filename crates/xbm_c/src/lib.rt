@@ -1,16 +1,20 @@
-// The C calls (include/xbm.h): the answers of the proved readers, written as numbers.
+// The C calls (include/xbm.h): the answers of the proved readers and of the proved writer, as numbers.
 ghost use mathlib.Core.Path.{_≡_};
 ghost use Rattle.xbm_c.specs.Next.{resultAt, decoderAt, reportAt};
 ghost use Rattle.xbm_c.specs.Told.{HeaderCall, ImageCall};
+ghost use Rattle.xbm_c.specs.Write.{WriteCall};
 use byte_report::tell;
 use decoder::XbmStreamDecoder;
 use decoder::next_byte;
 use header::read_xbm_header;
 use image::read_image;
+use report::hotspot_given;
 use report::write_hotspot;
 use report::write_report;
 use summary::header_told;
 use summary::image_told;
+use writer::XbmWritten;
+use writer::write_xbm;
 
 // Reads the header into the lent name buffer.
 #[no_mangle]
@@ -58,4 +62,32 @@ pub extern "C" fn xbm_next_byte(
 {
     let answer = next_byte(text, decoder);
     tell(answer, *decoder, report)
+}
+
+// Writes a mask as a text to the start of the lent output.
+#[no_mangle]
+pub extern "C" fn xbm_write(
+    name: &[u8],
+    width: u32,
+    height: u32,
+    has_hotspot: u32,
+    x: i32,
+    y: i32,
+    cells: &[u8],
+    out: &mut [u8],
+    length: &mut u64,
+) -> u32
+    ensures { λ r. ⌜ WriteCall (now (name .entry)) width height «has_hotspot» x y (now (cells .entry)) (now (out .entry)) (now (out .exit)) (now (length .exit)) r ⌝ }
+{
+    let hotspot = hotspot_given(has_hotspot, x, y);
+    match write_xbm(name, width, height, hotspot, cells, out) {
+        XbmWritten::Text(n) => {
+            *length = n as u64;
+            0
+        }
+        XbmWritten::Refused(c) => {
+            *length = 0;
+            c
+        }
+    }
 }

@@ -4,11 +4,8 @@ use Rattle.listing.proofs.Laws.{answered·laws}
 use Rattle.listing.proofs.list_text.Statement.{statement}
 use Rattle.listing.proofs.list_text.Tie as tie
 
-returns : tie.Need-returns
-returns c = search answered·laws
-
-read-limited-requires : tie.Need-read-limited-requires
-read-limited-requires c κs = search needs
+read-within-requires : tie.Need-read-within-requires
+read-within-requires c κs = search needs
 
 enum-known-image : tie.Need-enum-known-image
 enum-known-image c = search needs
@@ -25,8 +22,8 @@ same-length c = search needs
 same-length-2 : tie.Need-same-length-2
 same-length-2 c = search needs
 
-returns-2 : tie.Need-returns-2
-returns-2 c = search answered·laws
+returns : tie.Need-returns
+returns c = search answered·laws
 
 same-length-3 : tie.Need-same-length-3
 same-length-3 c = search needs
@@ -34,21 +31,20 @@ same-length-3 c = search needs
 same-length-4 : tie.Need-same-length-4
 same-length-4 c = search needs
 
-returns-3 : tie.Need-returns-3
-returns-3 c = search answered·laws
+returns-2 : tie.Need-returns-2
+returns-2 c = search answered·laws
 
 pub list-text-spec : {M : Type 1} → statement M
 list-text-spec =
     tie.close
     (tie.spec
-    returns
-    read-limited-requires
+    read-within-requires
     enum-known-image
     picture-ink-requires
     enum-known-image-2
     same-length
     same-length-2
-    returns-2
+    returns
     same-length-3
     same-length-4
-    returns-3)
+    returns-2)

@@ -1,0 +1,3 @@
+-- What the proofs of `data_text` share, by module.
+pub mod Packing
+pub mod Putting

@@ -1,0 +1,2 @@
+-- The laws of `header_text`.
+pub mod Laws

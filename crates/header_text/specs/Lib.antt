@@ -1,0 +1,3 @@
+-- The definitions and laws of `header_text`, by module.
+pub mod HeaderText
+pub mod Size

@@ -1,0 +1,2 @@
+-- The definitions of `mask`, by module.
+pub mod Fault

@@ -1,0 +1,1 @@
+// The writer and the reader together: claims and their proofs, in specs/. No code.
