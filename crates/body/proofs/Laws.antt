@@ -13,7 +13,7 @@ use Rattle.text.specs.Leaf.{give, eot}
 use Rattle.text.proofs.Laws.{next-rest, next-after, end_rest}
 use Rattle.text.proofs.Reading.{bind_ok, bind_laws, fork_laws}
 use Rattle.lexical.specs.Lexical.{is_blank, is_loose, skip, byte, is}
-use Rattle.lexical.proofs.Laws.{then-yes, byte-is, byte-end, skip_stop, skip-end, byte-laws, row-laws, pass_laws}
+use Rattle.lexical.proofs.Laws.{then-yes, byte-is, byte-end, skip_stop, skip-end, byte_laws, row_laws, pass_laws}
 use Rattle.hexadecimal.specs.Hex.{hex_byte}
 use Rattle.body.specs.Data.{item}
 use Rattle.body.specs.Code.{separator}
@@ -64,7 +64,7 @@ comma-spaced t i = separator-next false t i refl
 
 pub ruleset separator_laws = (separator-first, separator-comma, separator-end, separator-else)
 
-pub ruleset comma_laws = (comma-spaced, byte-laws)
+pub ruleset comma_laws = (comma-spaced, byte_laws)
 
 -- a data byte by its separator
 pub item-separated : (f : Bool) (t : List ℕ) (i : TextLocation) {z : Result ℕ} → z ≡ (separator f >> skip is_loose >> hex_byte 6) t i → z ≡ item f t i
@@ -84,4 +84,4 @@ pub ruleset item_laws = (item-separated, pass_laws)
 
 pub ruleset brace_laws = (fork_laws, then_is, bind_laws)
 
-pub ruleset closing_laws = (row-laws, bind_laws)
+pub ruleset closing_laws = (row_laws, bind_laws)

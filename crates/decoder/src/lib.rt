@@ -1,4 +1,5 @@
 // The stream decoder: one data byte a call, and after the last the trailer. By value; the text stands apart.
+#![tactic(auto)]
 ghost use Rattle.std.specs.Prelude.{◌≡◌};
 ghost use Rattle.body.specs.Data.{bytes_of};
 ghost use Rattle.decoder.specs.Step.{foreign, placed_at, told_call, told_step, step_of};
@@ -9,7 +10,7 @@ use text::{TextLocation, is_foreign_place};
 
 // XBM stream decoder: the sides, how many data bytes were asked for, and the place in the text.
 #[repr(C)]
-#[derive(Drop)]
+#[derive(Clone, Copy)]
 pub struct XbmStreamDecoder {
     pub width: u32,
     pub height: u32,
@@ -18,7 +19,7 @@ pub struct XbmStreamDecoder {
 }
 
 // The next data byte; none left, the trailer being sound; or a refusal. Foreign: numbers that no header of this text gave.
-#[derive(Drop)]
+#[derive(Clone, Copy)]
 pub enum NextByte {
     Byte(u8),
     Done,
@@ -26,7 +27,7 @@ pub enum NextByte {
     Foreign,
 }
 
-#[derive(Drop)]
+#[derive(Clone, Copy)]
 pub struct Stepped {
     pub decoder: XbmStreamDecoder,
     pub answer: NextByte,

@@ -1,4 +1,5 @@
 // The errors of a reading, and the number and the place that are told of each.
+#![tactic(auto)]
 ghost use Rattle.std.specs.Prelude.{◌≡◌};
 ghost use Rattle.error.specs.Error.{integer_number, refusal_of};
 
@@ -7,7 +8,7 @@ use lexical::{XbmPart, part_number};
 use text::TextLocation;
 
 // Error that can occur while parsing an XBM file.
-#[derive(Drop)]
+#[derive(Clone, Copy)]
 pub enum XbmDecodeError {
     Parse(XbmPart, TextLocation),
     DecodeInteger(XbmPart, Fault),
@@ -16,7 +17,7 @@ pub enum XbmDecodeError {
 }
 
 // A refusal as document 01 tells it: its number, and its place where one is told.
-#[derive(Drop)]
+#[derive(Clone, Copy)]
 pub enum Refusal {
     Placed(u32, TextLocation),
     Unplaced(u32),

@@ -1,4 +1,5 @@
 // The XBM header, up to and including the first opening brace. The name is stored in a lent buffer, the rest comes back by value.
+#![tactic(auto)]
 ghost use Rattle.std.specs.Prelude.{◌≡◌};
 ghost use Rattle.text.specs.Outcome.{shown};
 ghost use Rattle.header.specs.Answer.{hot_of, told_header, ending_of, rest_of, height_of, sides_of, Headed};
@@ -11,14 +12,14 @@ use lines::{read_array_line, read_define_line, read_value};
 use symbol::read_width_symbol;
 use text::{TextLocation, Took, take};
 
-#[derive(Drop)]
+#[derive(Clone, Copy)]
 pub enum Hotspot {
     Absent,
     At(i32, i32),
 }
 
 // Properties of an XBM image (excluding the name).
-#[derive(Drop)]
+#[derive(Clone, Copy)]
 pub struct XbmHeaderData {
     pub width: u32,
     pub height: u32,
@@ -26,14 +27,14 @@ pub struct XbmHeaderData {
 }
 
 // The header and the place after its brace, or the refusal.
-#[derive(Drop)]
+#[derive(Clone, Copy)]
 pub enum HeaderRead {
     Read(XbmHeaderData, TextLocation),
     Refused(XbmDecodeError),
 }
 
 // The same, with the length of the name that stands at the name buffer's start: 0 if the header is refused.
-#[derive(Drop)]
+#[derive(Clone, Copy)]
 pub struct HeaderAnswer {
     pub header: HeaderRead,
     pub name: usize,

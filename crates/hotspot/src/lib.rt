@@ -1,4 +1,5 @@
 // The hotspot's two lines, with a coordinate each.
+#![tactic(auto)]
 ghost use Rattle.std.specs.Prelude.{◌≡◌};
 ghost use Rattle.text.specs.Outcome.{shown};
 ghost use Rattle.lexical.specs.Lexical.{number};
@@ -11,14 +12,14 @@ use lines::read_define_line;
 use text::TextLocation;
 
 // A coordinate of the hotspot read, or the refusal.
-#[derive(Drop)]
+#[derive(Clone, Copy)]
 pub enum CoordinateRead {
     Coordinate(i32, TextLocation),
     Refused(XbmDecodeError),
 }
 
 // Both coordinates read, or the refusal.
-#[derive(Drop)]
+#[derive(Clone, Copy)]
 pub enum HotspotRead {
     Spot(i32, i32, TextLocation),
     Refused(XbmDecodeError),

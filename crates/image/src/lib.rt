@@ -1,4 +1,5 @@
 // Pixels from a text: the header, then the rows of cells, into lent buffers.
+#![tactic(auto)]
 ghost use Rattle.std.specs.Prelude.{◌≡◌};
 ghost use Rattle.image.specs.Limited.{limited_of, Bounded, Limited, Within};
 ghost use Rattle.image.specs.Reading.{Pictured, Imaged};
@@ -10,7 +11,7 @@ use rows::{Rows, read_rows};
 use text::TextLocation;
 
 // The picture read; a refusal; or a pixel buffer whose rows are not the picture's.
-#[derive(Drop)]
+#[derive(Clone, Copy)]
 pub enum ImageRead {
     Read(XbmHeaderData),
     Refused(XbmDecodeError),
@@ -18,20 +19,20 @@ pub enum ImageRead {
 }
 
 // The same, with the length of the name that stands at the name buffer's start: 0 if the header is refused.
-#[derive(Drop)]
+#[derive(Clone, Copy)]
 pub struct ImageAnswer {
     pub image: ImageRead,
     pub name: usize,
 }
 
 // The same within limits, a refusal by its number.
-#[derive(Drop)]
+#[derive(Clone, Copy)]
 pub enum LimitedRead {
     Read(XbmHeaderData),
     Refused(Refusal),
 }
 
-#[derive(Drop)]
+#[derive(Clone, Copy)]
 pub struct LimitedAnswer {
     pub image: LimitedRead,
     pub name: usize,

@@ -1,4 +1,5 @@
 // The cells of a picture, and how many are ink.
+#![tactic(auto)]
 ghost use Rattle.std.specs.Prelude.{◌≡◌, ◌*◌, min, take};
 ghost use Rattle.ink.specs.Ink.{ink_at, ink_of};
 

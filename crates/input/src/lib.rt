@@ -1,9 +1,10 @@
 // All of an input into a lent buffer, with a read that fails told apart from the input's end.
+#![tactic(auto)]
 ghost use Rattle.std.specs.Prelude.{◌≤◌, length};
 ghost use Rattle.input.specs.Input.{Within};
 
 // So many bytes at the buffer's start: all that there are, or as many as it has room for. Or a read failed.
-#[derive(Drop)]
+#[derive(Clone, Copy)]
 pub enum Input {
     Read(usize),
     Failed,

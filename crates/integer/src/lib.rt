@@ -1,10 +1,11 @@
 // Decimal integers, rejecting leading + and leading zeros; and what is wrong with a token that is none.
+#![tactic(auto)]
 ghost use Rattle.std.specs.Prelude.{min, ◌≡◌};
 ghost use Rattle.integer.specs.Decimal.{parse_u32, parse_i32, digits_of, positive, negative, fault_number};
 
 // What is wrong with a token, tested in this order: nothing is there; a zero is first, with any byte behind it; a byte is no
 // digit; the number is too large or too small.
-#[derive(Drop)]
+#[derive(Clone, Copy)]
 pub enum Fault {
     Empty,
     LeadingZero,
@@ -12,13 +13,13 @@ pub enum Fault {
     OutOfRange,
 }
 
-#[derive(Drop)]
+#[derive(Clone, Copy)]
 pub enum Unsigned {
     Value(u32),
     Bad(Fault),
 }
 
-#[derive(Drop)]
+#[derive(Clone, Copy)]
 pub enum Signed {
     Number(i32),
     Wrong(Fault),

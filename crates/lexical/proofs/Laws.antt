@@ -5,7 +5,7 @@ use native.Mathlib.Omega.{arith}
 use borrow.Author.Tests.{eq-eqb, ne_eqb}
 use mathlib.Core.Path.{◌≡◌, refl, sym, ap, ◌∙◌}
 use mathlib.Core.Option.{some}
-use mathlib.Core.List.{List, []}
+use mathlib.Core.List.{List}
 use mathlib.Core.Bool.{Bool, true, false}
 use lib.ListN.{length, drop, get_or, drop_of_length-le}
 use lib.Seq.{drop-cons}
@@ -13,7 +13,7 @@ use Rattle.text.specs.declared.TextLocation.{TextLocation}
 use Rattle.text.specs.declared.Took.{Took}
 use Rattle.text.specs.declared.Took.TheVariants.{Next, End}
 use Rattle.text.specs.Place.{past_byte, took_at}
-use Rattle.text.specs.Reader.{Result, ok, stop, then, Reader, ◌>>=◌, ◌>>◌}
+use Rattle.text.specs.Reader.{Result, ok, stop, Reader, ◌>>=◌, ◌>>◌}
 use Rattle.text.specs.Leaf.{give}
 use Rattle.text.proofs.Laws.{next-less, next_past}
 use Rattle.text.proofs.Reading.{bind_ok, bind-stop, bind_laws, one_ok, one-past, one-stop, one_end, run_on, run-stay, run_end}

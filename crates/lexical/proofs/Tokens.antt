@@ -6,21 +6,21 @@ use borrow.Author.Tests.{lt-ltb, le-ltb}
 use lib.Dec.{ltb}
 use mathlib.Core.Path.{◌≡◌, refl, sym, ap, ◌∙◌}
 use mathlib.Core.Option.{some}
-use mathlib.Core.List.{List, [], ◌∷◌, ◌++◌, append_assoc}
+use mathlib.Core.List.{List, ◌++◌, append_assoc}
 use mathlib.Core.Bool.{Bool, true, false}
 use lib.ListN.{length, take, drop, set, length-set, take-append-drop}
 use lib.Seq.{take-suc-set, drop-set-lt, drop-drop, length-take-le, take_at}
 use Rattle.text.specs.declared.TextLocation.{TextLocation}
 use Rattle.text.specs.declared.Took.{Took}
 use Rattle.text.specs.declared.Took.TheVariants.{Next, End}
-use Rattle.text.specs.Place.{pick, rest, after, byte_of, took_at}
-use Rattle.text.specs.Reader.{Result, ok, stop, end_of, Reader, ◌>>=◌}
-use Rattle.text.specs.Leaf.{Move, go_on, stay, halt, run}
+use Rattle.text.specs.Place.{rest, after, byte_of, took_at}
+use Rattle.text.specs.Reader.{Result, stop, end_of, Reader, ◌>>=◌}
+use Rattle.text.specs.Leaf.{run}
 use Rattle.text.proofs.Laws.{next-rest, next-after}
 use Rattle.text.proofs.Reading.{bind_ok, bind-stop, run_on, run-stay, run-halt, run_end}
 use Rattle.lexical.specs.declared.XbmPart.{XbmPart}
 use Rattle.lexical.specs.Lexical.{number}
-use Rattle.lexical.specs.Token.{up_to, token, told_token, size_of, span, overlay, Tokened}
+use Rattle.lexical.specs.Token.{up_to, token, told_token, size_of, span, Tokened}
 use Rattle.lexical.specs.declared.Token.{Token}
 use Rattle.lexical.specs.declared.Token.TheVariants.{Read, Refused}
 

@@ -1,4 +1,6 @@
 // The lexical readers: each takes bytes at a place, and answers what it read and the place after it, or a refusal with its place.
+#![tactic(auto)]
+
 ghost use Rattle.std.specs.Prelude.{◌≡◌};
 ghost use Rattle.text.specs.Reader.{ok};
 ghost use Rattle.lexical.specs.Lexical.{is_blank, is_loose, space_of, number, told, onto, told_byte, any_byte, skip, gap, fixed, line_end};
@@ -7,7 +9,7 @@ ghost use Rattle.lexical.specs.Token.{Tokened};
 use text::{TextLocation, Took, past_byte, take};
 
 // The part of the file in which a rule is broken.
-#[derive(Drop)]
+#[derive(Clone, Copy)]
 pub enum XbmPart {
     Width,
     Height,
@@ -20,21 +22,21 @@ pub enum XbmPart {
 }
 
 // The place after what was read, or the refusal's.
-#[derive(Drop)]
+#[derive(Clone, Copy)]
 pub enum Passed {
     To(TextLocation),
     Refused(XbmPart, TextLocation),
 }
 
 // A byte, or a number below 256, and the place after it; or the refusal's place.
-#[derive(Drop)]
+#[derive(Clone, Copy)]
 pub enum ByteRead {
     Got(u8, TextLocation),
     Refused(XbmPart, TextLocation),
 }
 
 // How many bytes were stored, and the place after them; or the refusal's place.
-#[derive(Drop)]
+#[derive(Clone, Copy)]
 pub enum Token {
     Read(usize, TextLocation),
     Refused(XbmPart, TextLocation),

@@ -1,4 +1,5 @@
 // The listing of a mask: what the program prints, made of a text in lent buffers.
+#![tactic(auto)]
 ghost use Rattle.std.specs.Prelude.{◌≡◌};
 ghost use Rattle.print.specs.Output.{output, puts};
 ghost use Rattle.listing.specs.Listing.{answer_text, Answered, Lists};
@@ -10,7 +11,7 @@ use ink::picture_ink;
 use printing::{put_accepted, put_refusal};
 
 // The header and the ink of an accepted mask, or the refusal.
-#[derive(Drop)]
+#[derive(Clone, Copy)]
 pub enum ListAnswer {
     Accepted(XbmHeaderData, u64),
     Refused(Refusal),

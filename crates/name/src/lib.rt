@@ -1,11 +1,12 @@
 // The name as a part of the lent name buffer: it carries the buffer's lifetime and not the text's.
+#![tactic(auto)]
 ghost use Rattle.std.specs.Prelude.{◌≡◌, min, take, drop};
 ghost use Rattle.name.specs.Parted.{Stored, Parted};
 
 use header::read_xbm_header;
 
 // The name, and the rest of the buffer behind it: the two together are all that the buffer holds from here on.
-#[derive(Drop)]
+#[derive(Clone, Copy)]
 pub struct Named<'n> {
     pub name: &'n [u8],
     pub rest: &'n [u8],

@@ -1,4 +1,5 @@
 // Replays the stored answers of the original, data/answers.bin, and says where ours differ.
+#![tactic(auto)]
 use answer::answer;
 use report::{is_given, print_difference, print_malformed, print_summary};
 use stored::{NUMBERS, RECORD, ROOM, Record, Verdict, compare, number_at, read_record};

@@ -1,4 +1,5 @@
 // What a call tells, written as numbers in the order of include/xbm.h: the report of a header or a picture, and its hotspot; and a hotspot given so.
+#![tactic(auto)]
 ghost use Rattle.std.specs.Prelude.{◌≡◌};
 ghost use Rattle.header.specs.Answer.{hot_of};
 ghost use Rattle.report.specs.Report.{flag_of, coordinates, hot_given, report_of};
@@ -7,7 +8,7 @@ use header::Hotspot;
 use text::TextLocation;
 
 // What a call tells: zeros and no hotspot where it tells nothing; `name` is the name's length.
-#[derive(Drop)]
+#[derive(Clone, Copy)]
 pub struct Summary {
     pub number: u32,
     pub place: TextLocation,

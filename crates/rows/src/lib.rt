@@ -1,4 +1,5 @@
 // The rows of a picture: its data bytes, read into a lent buffer.
+#![tactic(auto)]
 ghost use Rattle.std.specs.Prelude.{◌≡◌, ◌+◌, ◌/◌, ◌≤◌, ◌<◌, length, false};
 ghost use Rattle.text.specs.Rest.{Sound};
 ghost use Rattle.lexical.specs.Lexical.{told_byte};
@@ -14,7 +15,7 @@ use lexical::{ByteRead, Passed, XbmPart};
 use text::{TextLocation, along, reaches};
 
 // The rows read; a refusal; or rows that are not the picture's.
-#[derive(Drop)]
+#[derive(Clone, Copy)]
 pub enum Rows {
     Done,
     Refused(XbmPart, TextLocation),
@@ -22,7 +23,7 @@ pub enum Rows {
 }
 
 // A byte and the place after it, or no word of what stands there.
-#[derive(Drop)]
+#[derive(Clone, Copy)]
 pub enum Quick {
     Hit(u8, TextLocation),
     Miss,

@@ -1,4 +1,5 @@
 // A record of the stored answers: what is lent in a case, and what the original answered. docs/REPLAY.md tells the format.
+#![tactic(auto)]
 ghost use Rattle.std.specs.Prelude.{◌≡◌, ◌<◌};
 ghost use Rattle.stored.specs.Record.{byte_at, number_at, told_in, record_in, counts_as, name_on, hotspot_on, sides_on, place_on, verdict_on};
 
@@ -12,7 +13,7 @@ pub const ROOM: usize = 4096;
 pub const NUMBERS: usize = 32;
 
 // An answer, and the sums of both buffers after it. What an answer does not tell is 0.
-#[derive(Drop)]
+#[derive(Clone, Copy)]
 pub struct Told {
     pub number: u64,
     pub byte: u64,
@@ -30,7 +31,7 @@ pub struct Told {
 
 // How many bytes follow, which take the place of the text's start; how many bytes of the text and how many cells
 // are lent; and the original's answer.
-#[derive(Drop)]
+#[derive(Clone, Copy)]
 pub struct Record {
     pub brought: u64,
     pub length: u64,
@@ -39,7 +40,7 @@ pub struct Record {
 }
 
 // What differs first between our answer and the original's; or there is no record that can be replayed.
-#[derive(Drop)]
+#[derive(Clone, Copy)]
 pub enum Verdict {
     Same,
     Number,

@@ -1,13 +1,13 @@
 -- What a step of the code says of a reader's definition. Each law's premises are what a call ensures and what a `match` or a test tells,
 -- and its conclusion is `result ≡ definition`, so `search` puts them together.
-use Rattle.std.proofs.Common.{◌≡◌, ℕ, ◌*◌, ◌^◌, ◌<◌, List, [], ◌∷◌, length, refl, ap, ◌∙◌, eq-eqb, ne_eqb}
+use Rattle.std.proofs.Common.{◌≡◌, ℕ, ◌*◌, ◌^◌, ◌<◌, List, length, ap, ◌∙◌, eq-eqb, ne_eqb}
 use mathlib.Core.Option.{Option, none, some}
 use Rattle.text.specs.declared.TextLocation.{TextLocation}
 use Rattle.text.specs.declared.Took.{Took}
 use Rattle.text.specs.declared.Took.TheVariants.{Next, End}
-use Rattle.text.specs.Place.{rest, after, past_byte, took_at}
-use Rattle.text.specs.Reader.{Result, ok, stop, bad, Reader, then, ◌>>=◌}
-use Rattle.text.specs.Leaf.{one, run, scan, Move, go_on, stay, halt, judge, give, want, need, fork}
+use Rattle.text.specs.Place.{past_byte, took_at}
+use Rattle.text.specs.Reader.{Result, ok, stop, bad, Reader, ◌>>=◌}
+use Rattle.text.specs.Leaf.{one, run, Move, go_on, stay, halt, give, fork}
 use Rattle.text.proofs.Laws.{next-rest, next-after, next_past, end_rest}
 
 -- one reading after another

@@ -1,4 +1,6 @@
 // A place in a text, and taking or looking at one byte there: the core of the text reader, by value.
+#![tactic(auto)]
+
 ghost use Rattle.std.specs.Prelude.{◌≡◌, ◌^◌, ◌<◌};
 ghost use Rattle.text.specs.Place.{byte_of, at_line_start, start, nowhere, is_sound, is_foreign, reaches_to, has_left, along_line, past_line, past_byte, took_at, peeked_at};
 
@@ -6,27 +8,27 @@ use std::num::wrapping_add_u64;
 
 // How many bytes were taken.
 #[repr(C)]
-#[derive(Drop)]
+#[derive(Clone, Copy)]
 pub struct Byte(pub u64);
 
 // The line, from 1.
 #[repr(C)]
-#[derive(Drop)]
+#[derive(Clone, Copy)]
 pub struct Line(pub u64);
 
 // The column, from 0.
 #[repr(C)]
-#[derive(Drop)]
+#[derive(Clone, Copy)]
 pub struct Column(pub u64);
 
 // How many bytes were taken when the line started.
 #[repr(C)]
-#[derive(Drop)]
+#[derive(Clone, Copy)]
 pub struct Start(pub u64);
 
 // Location of a byte in the text.
 #[repr(C)]
-#[derive(Drop)]
+#[derive(Clone, Copy)]
 pub struct TextLocation {
     pub byte: Byte,
     pub line: Line,
@@ -35,14 +37,14 @@ pub struct TextLocation {
 }
 
 // What taking a byte gives: the byte and the place after it, or nothing at the text's end.
-#[derive(Drop)]
+#[derive(Clone, Copy)]
 pub enum Took {
     Next(u8, TextLocation),
     End,
 }
 
 // What stands at a place.
-#[derive(Drop)]
+#[derive(Clone, Copy)]
 pub enum Peeked {
     Found(u8),
     Nothing,

@@ -1,4 +1,5 @@
 // A text reader: the lent text and the place in it. Thin methods over functions on slice and place.
+#![tactic(auto)]
 ghost use Rattle.std.specs.Prelude.{◌≡◌};
 ghost use Rattle.text.specs.Place.{start};
 ghost use Rattle.text_reader.specs.TextReader.{moved_at, next_of, moved_on};
@@ -6,7 +7,7 @@ ghost use Rattle.text_reader.specs.TextReader.{moved_at, next_of, moved_on};
 use text::{Peeked, TextLocation, Took, beginning, take};
 
 // What taking a byte gives: the place after it, and the byte.
-#[derive(Drop)]
+#[derive(Clone, Copy)]
 pub struct Moved {
     pub location: TextLocation,
     pub answer: Peeked,
@@ -29,7 +30,7 @@ pub fn next_at(text: &[u8], place: TextLocation) -> Moved
 }
 
 #[repr(C)]
-#[derive(Drop)]
+#[derive(Clone, Copy)]
 pub struct TextReader<'a> {
     pub text: &'a [u8],
     pub location: TextLocation,

@@ -1,4 +1,5 @@
 // Writes a mask as XBM text into a lent buffer.
+#![tactic(auto)]
 ghost use Rattle.std.specs.Prelude.{◌≡◌};
 ghost use Rattle.header.specs.Answer.{hot_of};
 ghost use Rattle.print.specs.Output.{output, puts};
@@ -20,7 +21,7 @@ pub const NAME_LIMIT: usize = 250;
 const HEADER_SIZE: usize = 1536;
 
 // The text's length, or the number of the refusal.
-#[derive(Drop)]
+#[derive(Clone, Copy)]
 pub enum XbmWritten {
     Text(usize),
     Refused(u32),

@@ -1,4 +1,5 @@
 // The C calls (include/xbm.h): the answers of the proved readers and of the proved writer, as numbers.
+#![tactic(auto)]
 ghost use Rattle.std.specs.Prelude.{◌≡◌};
 ghost use Rattle.xbm_c.specs.Next.{result_at, decoder_at, report_at};
 ghost use Rattle.xbm_c.specs.Told.{HeaderCall, ImageCall};

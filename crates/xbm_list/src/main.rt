@@ -1,4 +1,5 @@
 // Lists the mask on standard input: reads, calls the listing, writes. If a read fails, nothing is listed.
+#![tactic(auto)]
 use input::{Input, read_input};
 use program::{CELLS_SIZE, OUT_SIZE, TEXT_SIZE, list_input};
 use symbol::name_buffer;

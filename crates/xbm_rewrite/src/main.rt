@@ -1,4 +1,5 @@
 // Rewrites the mask on standard input: reads, calls the rewriting, writes. If a read fails, nothing is written.
+#![tactic(auto)]
 use input::{Input, read_input};
 use program::{CELLS_SIZE, TEXT_SIZE};
 use rewriting::{REWRITTEN_SIZE, rewrite_input};

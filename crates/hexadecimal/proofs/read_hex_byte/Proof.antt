@@ -1,6 +1,6 @@
--- `hexadecimal::read_hex_byte` meets its contract: each return is a law (`pass_laws`, `one-laws`, `hi-fits`, `byte_fits`).
+-- `hexadecimal::read_hex_byte` meets its contract: each return is a law (`pass_laws`, `one_laws`, `hi-fits`, `byte_fits`).
 use Rattle.lexical.proofs.Laws.{pass_laws}
-use Rattle.hexadecimal.proofs.Hex.{one-laws, hi-fits, byte_fits}
+use Rattle.hexadecimal.proofs.Hex.{one_laws, hi-fits, byte_fits}
 use Rattle.hexadecimal.specs.Hex.{hex_unit, hex_digits}
 use borrow.Author.Rules.{rules}
 use Rattle.hexadecimal.proofs.read_hex_byte.Statement.{statement}
@@ -17,7 +17,7 @@ enum-known-q c = search rules
 
 returns : tie.Need-returns
 unfolding hex_unit hex_digits
-returns c = search (pass_laws, one-laws)
+returns c = search (pass_laws, one_laws)
 
 read-hex-digit-requires : tie.Need-read-hex-digit-requires
 read-hex-digit-requires c κs = search rules
@@ -45,15 +45,15 @@ enum-known-q-3 c = search rules
 
 returns-2 : tie.Need-returns-2
 unfolding hex_unit hex_digits
-returns-2 c = search (pass_laws, one-laws)
+returns-2 c = search (pass_laws, one_laws)
 
 returns-3 : tie.Need-returns-3
 unfolding hex_unit hex_digits
-returns-3 c = search (pass_laws, one-laws)
+returns-3 c = search (pass_laws, one_laws)
 
 returns-4 : tie.Need-returns-4
 unfolding hex_unit hex_digits
-returns-4 c = search (pass_laws, one-laws)
+returns-4 c = search (pass_laws, one_laws)
 
 pub read-hex-byte-spec : {M : Type 1} → statement M
 read-hex-byte-spec =

@@ -1,5 +1,5 @@
--- `hexadecimal::read_mark` meets its contract: each return is a law (`byte-laws`).
-use Rattle.lexical.proofs.Laws.{byte-laws}
+-- `hexadecimal::read_mark` meets its contract: each return is a law (`byte_laws`).
+use Rattle.lexical.proofs.Laws.{byte_laws}
 use borrow.Author.Rules.{rules}
 use Rattle.hexadecimal.proofs.read_mark.Statement.{statement}
 use Rattle.hexadecimal.proofs.read_mark.Tie as tie
@@ -20,13 +20,13 @@ enum_told : tie.Need-enum-told
 enum_told c = search rules
 
 returns : tie.Need-returns
-returns c = search byte-laws
+returns c = search byte_laws
 
 returns-2 : tie.Need-returns-2
-returns-2 c = search byte-laws
+returns-2 c = search byte_laws
 
 returns-3 : tie.Need-returns-3
-returns-3 c = search byte-laws
+returns-3 c = search byte_laws
 
 pub read-mark-spec : {M : Type 1} → statement M
 read-mark-spec =

@@ -1,5 +1,5 @@
 -- `read_array_line` meets its contract. A row of ten readings.
-use Rattle.lexical.proofs.Laws.{row-laws}
+use Rattle.lexical.proofs.Laws.{row_laws}
 use Rattle.lines.specs.Lines.{array_line}
 use borrow.Author.Rules.{rules}
 use Rattle.lines.proofs.read_array_line.Statement.{statement}
@@ -49,7 +49,7 @@ then-fixed-requires-4 c κs = search rules
 
 returns : tie.Need-returns
 unfolding array_line
-returns c = search row-laws depth 24
+returns c = search row_laws depth 24
 
 pub read-array-line-spec : {M : Type 1} → statement M
 read-array-line-spec =

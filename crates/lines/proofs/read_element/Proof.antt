@@ -1,6 +1,6 @@
 -- `read_element` meets its contract. A look at the next byte, then one row or the other.
 use Rattle.text.proofs.Reading.{fork_laws}
-use Rattle.lexical.proofs.Laws.{row-laws}
+use Rattle.lexical.proofs.Laws.{row_laws}
 use Rattle.lines.specs.Lines.{element}
 use borrow.Author.Rules.{rules}
 use Rattle.lines.proofs.read_element.Statement.{statement}
@@ -20,7 +20,7 @@ read-fixed-string-requires c κs = search rules
 
 returns : tie.Need-returns
 unfolding element
-returns c = search (fork_laws, row-laws)
+returns c = search (fork_laws, row_laws)
 
 slice-aggregate-read-fixed-string-2 : tie.Need-slice-aggregate-read-fixed-string-2
 slice-aggregate-read-fixed-string-2 c = search rules
@@ -39,18 +39,18 @@ then-fixed-requires c κs = search rules
 
 returns-2 : tie.Need-returns-2
 unfolding element
-returns-2 c = search (fork_laws, row-laws)
+returns-2 c = search (fork_laws, row_laws)
 
 enum_told : tie.Need-enum-told
 enum_told c = search rules
 
 returns-3 : tie.Need-returns-3
 unfolding element
-returns-3 c = search (fork_laws, row-laws)
+returns-3 c = search (fork_laws, row_laws)
 
 returns-4 : tie.Need-returns-4
 unfolding element
-returns-4 c = search (fork_laws, row-laws)
+returns-4 c = search (fork_laws, row_laws)
 
 pub read-element-spec : {M : Type 1} → statement M
 read-element-spec =

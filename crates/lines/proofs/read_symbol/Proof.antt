@@ -1,5 +1,5 @@
 -- `read_symbol` meets its contract. A row of four readings.
-use Rattle.lexical.proofs.Laws.{row-laws}
+use Rattle.lexical.proofs.Laws.{row_laws}
 use Rattle.lines.specs.Lines.{symbol}
 use borrow.Author.Rules.{rules}
 use Rattle.lines.proofs.read_symbol.Statement.{statement}
@@ -22,7 +22,7 @@ then-fixed-requires-2 c κs = search rules
 
 returns : tie.Need-returns
 unfolding symbol
-returns c = search row-laws
+returns c = search row_laws
 
 pub read-symbol-spec : {M : Type 1} → statement M
 read-symbol-spec =
