@@ -1,6 +1,6 @@
 -- The law `rewrites-input`, whose premises are the sizes in the types.
 use Rattle.std.proofs.Common.{rules}
-use Rattle.rewriting.proofs.Laws.{rewrites-input}
+use Rattle.rewriting.proofs.Input.{rewrites-input}
 use Rattle.rewriting.proofs.rewrite_input.Goals as goal
 
 pub returns : goal.returns
