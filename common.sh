@@ -157,7 +157,7 @@ build() {
     writable || fail "the program $why, and $root/crates cannot be written: build it where it can be (rt run in crates/$crate)"
     command -v rt >/dev/null || fail "the program $why, and the toolchain that proves and builds it (rt) is not found"
     temporary "the program $why, and "
-    exec 9<"$root/crates/$crate"
+    exec 9<"$root/crates" # not a crate's own folder, which rt locks
     if command -v flock >/dev/null && ! flock -n 9; then
         complain "waiting for another call, which builds the program"
         flock 9
