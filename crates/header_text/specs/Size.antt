@@ -1,5 +1,5 @@
 -- How long a header's text is at most.
-use Rattle.std.specs.Prelude.{ℕ, ◌+◌, ◌≤◌, List, [], ◌++◌, length, ℤ}
+use Rattle.std.specs.Prelude.{ℕ, ◌≤◌, List, [], ◌++◌, length, ℤ}
 use Rattle.std.proofs.Common.{arith, length-append}
 use Rattle.std.proofs.Math.Option.{Option, none, some}
 use Rattle.text.specs.Ascii.{ascii}

@@ -6,7 +6,6 @@ use native.Mathlib.Decide.{dec_lt}
 use native.Mathlib.Nat.{suc-mul, mul_comm, mul-le-mul_right, div-zero, div-mul-le_self}
 use mir.Syntax.{w64}
 use mir.Val.{Fits}
-use mathlib.Core.Option.{none}
 use mathlib.Core.Bool.{Bool, true, false, true≢false}
 use mathlib.Core.List.{List, [], ◌∷◌, ◌++◌, append_assoc, append-nil}
 use lib.ListN.{length, get_or, take, drop}
@@ -15,7 +14,7 @@ use borrow.Author.Tests.{eq-eqb, ne_eqb, lt-ltb, le-ltb}
 use Rattle.text.specs.declared.TextLocation.{TextLocation}
 use Rattle.text.specs.Rest.{Sound}
 use Rattle.text.specs.PlaceLaws.{reach-sound}
-use Rattle.text.specs.Reader.{Result, ok, stop, bad, Reader, ◌>>=◌, ◌>>◌, then}
+use Rattle.text.specs.Reader.{Result, ok, stop, bad, Reader, ◌>>=◌, then}
 use Rattle.text.specs.Outcome.{outcome}
 use Rattle.text.specs.Leaf.{give, need}
 use Rattle.lexical.specs.declared.XbmPart.{XbmPart}
