@@ -137,13 +137,14 @@ module _ (lim : ℕ) (name : List ℕ) (n : ℕ) where
 -- ---- the values of tokens
 
 pub side-fits : (c d n : ℕ) (w : List ℕ) → Fits (side c d w) n (Side n w × Unit {0}) (Word []) Any
+unfolding Side
 side-fits c d n w = fit-need _ (number w) (λ x. (n, known-side x)) (λ v r. fit-needed d (positive v) ((λ x. last' 0 [] n w v x r), back v r))
   where
     known-side : Side n w × Unit {0} → number w ≡ some n
-    known-side (x, y) = unfold Side in (decimal→number w n x.0 x.2)
+    known-side (x, y) = decimal→number w n x.0 x.2
 
     back : (v : ℕ) → number w ≡ some v → positive v ≡ some n → Side n w × Unit {0}
-    back v r o = unfold Side in (let (x, y) = positive-inv v n o in let (d, l) = number→decimal w v r in ((rw x at d, y, omega arith), tt))
+    back v r o = let (x, y) = positive-inv v n o in let (d, l) = number→decimal w v r in ((rw x at d, y, omega arith), tt)
 
 coordinate-token : (z : ℤ) (w : List ℕ) → Coordinate z w → Token w
 unfolding Coordinate ◌·◌ Word
