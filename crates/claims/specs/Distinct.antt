@@ -47,6 +47,7 @@ decimal-free b n w l d = digits-free b w l (decimal-digits n w d).0
 
 decimal-value : (n : ℕ) (w : List ℕ) → Decimal n w → value 0 w ≡ n
 unfolding Decimal
+decimal-value n [] d = absurd d
 decimal-value n (x ∷ []) (d, v) = v
 decimal-value n (x ∷ y ∷ w) (z, d, v) = v
 
