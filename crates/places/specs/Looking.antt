@@ -145,7 +145,10 @@ module _ {A : Type 0} (limit : ℕ) (f : List ℕ → List ℕ → Reader A) whe
           let h : Halts symbol_then (Word (name ++ end_width) · Gap · Full 11) On 1 =
           halt-bind _ (name ++ end_width) (all_join solid name end_width a (all-test solid end_width refl), omega (arith, ap length e)) (token-fits 1 limit (name ++ end_width)) (begins-cat _ gap-solid) (
           want-halts _ 1 1 (before end_width (name ++ end_width)) name (ends→before end_width name) (value-halts 1 (f name))) in
-          h.halts t i w r d (unfold ◌·◌ Word in (u, v, q, e, l)) o
+          h.halts t i w r d (put u v w q e l) o
+        where
+          put : (u v w : List ℕ) → w ≡ u ++ v → u ≡ name ++ end_width → (Gap · Full 11) v → (Word (name ++ end_width) · Gap · Full 11) w
+          put u v w q e l = unfold ◌·◌ Word in (u, v, q, e, l)
 
 -- ---- the header
 

@@ -52,6 +52,7 @@ record Number (n : ℕ) (w : List ℕ) : Type 0 where
 
 number : (n : ℕ) (w : List ℕ) → Decimal n w → Number n w
 unfolding Decimal
+number n [] d = absurd d
 number n (x ∷ []) (d, v) = record { digits = d; valued = v; led = λ y z e l. absurd (omega (arith, ap length e)); some-digit = omega arith }
 number n (x ∷ y ∷ w) (z, d, v) = record { digits = d; valued = v; led = λ a b e l. (let q : x ≡ a = cc in rw (← q) (positive x z d.0.0)); some-digit = omega arith }
   where
