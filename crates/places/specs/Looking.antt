@@ -20,7 +20,7 @@ use Rattle.lines.specs.Lines.{value, line, side, signed, unsigned, positive, wid
 use Rattle.header.specs.Header.{Head, header}
 use Rattle.image.specs.Reading.{picture, reading}
 use Rattle.grammar.specs.Lang.{Lang, Word, Lit, ◌·◌, All, Star}
-use Rattle.grammar.specs.Grammar.{blank, space, solid, Gap, Symbol, Skipped, Side, Coordinate, Define}
+use Rattle.grammar.specs.Grammar.{Mask, blank, space, solid, Gap, Symbol, Skipped, Side, Coordinate, Define}
 use Rattle.grammar.specs.Bind.{bind_ok, bind-stop, past-append, move}
 use Rattle.grammar.specs.Exact.{start-rest}
 use Rattle.grammar.specs.Tests.{before→ends, ends→before}
@@ -195,6 +195,10 @@ told-so : (t name pixels : List ℕ) (c : ℕ) (p : TextLocation) → header (le
 unfolding reading picture
 told-so t name pixels c p q = ap (outcome (λ (p : Head × List ℕ). p.0)) (bind-stop (header (length name)) _ t start c p q)
 
+y-name : (limit : ℕ) (m : Mask) (x : ℤ) (u : List ℕ) → (Third limit m (Coordinate x) · Named (Word (m.name ++ ascii "_y_hot"))) u → All solid m.name
+unfolding ◌·◌
+y-name limit m x u k = crossed-name limit (three_of m, x) k.0 k.3
+
 module _ (t name pixels : List ℕ) (p : TextLocation) where
   abbrev limit : ℕ
   limit = length name
@@ -241,7 +245,4 @@ module _ (t name pixels : List ℕ) (p : TextLocation) where
         where
           name_of : (Sides limit m · Named (Word (m.name ++ ascii "_x_hot"))) u → All solid m.name
           name_of k = unfold ◌·◌ in (both-name limit (three_of m) k.0 k.3)
-      go d (y-hot m x k) = at_start (Third limit m (Coordinate x) · Named (Word (m.name ++ ascii "_y_hot"))) (Full 11) On 4 (halt-words (λ v y. shift _ _ _ v (shift _ _ _ v y)) (y-halts limit (three_of m) x (name_of k))) u w b a k (unfold Full in (s, l)) (on-solid b h)
-        where
-          name_of : (Third limit m (Coordinate x) · Named (Word (m.name ++ ascii "_y_hot"))) u → All solid m.name
-          name_of k = unfold ◌·◌ in (crossed-name limit (three_of m, x) k.0 k.3)
+      go d (y-hot m x k) = at_start (Third limit m (Coordinate x) · Named (Word (m.name ++ ascii "_y_hot"))) (Full 11) On 4 (halt-words (λ v y. shift _ _ _ v (shift _ _ _ v y)) (y-halts limit (three_of m) x (y-name limit m x u k))) u w b a k (unfold Full in (s, l)) (on-solid b h)
