@@ -1,19 +1,13 @@
 -- THE CLAIMS. To believe them, read: the grammar (Lang and Grammar, what a text of the format is), the reading that all contracts cite
 -- (Reading and what it names), Terms (the words used here), the records of specs/Claims, and the statements of this file. Every proof below is a citation.
-use Rattle.std.specs.Prelude.{◌≡◌, ◌↔◌, ◌⊎◌, ℕ, ◌+◌, ◌-◌, ◌*◌, ◌/◌, ◌≤◌, ◌<◌, min, List, [], ◌++◌, length, take, eqb}
-use Rattle.std.proofs.Math.Option.{none, some}
-use Rattle.std.proofs.Math.ListN.{get_elem?}
-use Rattle.text.specs.declared.TextLocation.{TextLocation}
-use Rattle.text.specs.Place.{byte_of, start, past}
-use Rattle.text.specs.Outcome.{accepted, refused, unplaced, outcome}
+use Rattle.std.specs.Prelude.{◌≡◌, ◌↔◌, ℕ, ◌*◌, ◌≤◌, List, [], ◌++◌, length, take}
+use Rattle.text.specs.Place.{start, past}
+use Rattle.text.specs.Outcome.{accepted, unplaced}
 use Rattle.header.specs.Header.{Head}
-use Rattle.body.specs.Data.{item, trailer}
-use Rattle.decoder.specs.Step.{placed_at, step_of}
-use Rattle.image.specs.Reading.{Reading, reading}
-use Rattle.grammar.specs.Lang.{◌·◌}
+use Rattle.image.specs.Reading.{reading}
 use Rattle.grammar.specs.Grammar.{Mask, Header, Data, Format}
 use Rattle.grammar.proofs.Flat.{one-mask}
-use Rattle.claims.specs.Terms.{head_of, having, W, rows, Fitting, Rule, Last, Begun, Came, Stands, Mismatched, HeaderRefusal, symbol_of, Opening, over}
+use Rattle.claims.specs.Terms.{head_of, W, Fitting, Begun, Mismatched, HeaderRefusal, symbol_of, over}
 use Rattle.claims.proofs.Accepts
 use Rattle.claims.proofs.Semicolon
 use Rattle.claims.proofs.Parts
@@ -23,7 +17,6 @@ use Rattle.claims.proofs.Mismatch
 use Rattle.claims.proofs.Headless
 use Rattle.claims.proofs.AllCells
 use Rattle.claims.proofs.Steps
-use Rattle.claims.specs.Steps.{calls, decoder_of}
 use Rattle.claims.specs.Claims.{Filled, Cut, Kept, Stepped}
 
 -- 1. ACCEPTS (demand 2). For every text, name buffer and pixel buffer: the reading accepts with a header exactly if the text is written as the grammar says, for some mask

@@ -1,13 +1,12 @@
 -- THE CLAIMS ON THE PROGRAM: what it prints for document 01's masks, and of every accepted text and its cuts.
 -- To believe them, read Listing (what is printed of a text, with the limits) and what it names, beside what Claims
 -- names, the records of specs/Program, and the statements of this file. Every proof below is a citation or a computation.
-use Rattle.std.specs.Prelude.{◌≡◌, refl, ◌↔◌, ℕ, ◌*◌, ◌≤◌, ◌<◌, List, ◌++◌, map, length, take, drop, ℤ}
+use Rattle.std.specs.Prelude.{◌≡◌, refl, ℕ, ◌*◌, ◌≤◌, List, map, length, ℤ}
 use Rattle.std.proofs.Math.Option.{Option}
-use Rattle.text.specs.declared.TextLocation.{TextLocation}
-use Rattle.text.specs.Place.{byte_of, start, past, after, rest}
+use Rattle.text.specs.Place.{after, rest}
 use Rattle.text.specs.Reader.{◌>>=◌}
 use Rattle.text.specs.Leaf.{give, want, need, one, run, fork, eot}
-use Rattle.text.specs.Outcome.{accepted, refused, unplaced}
+use Rattle.text.specs.Outcome.{accepted}
 use Rattle.lexical.specs.Lexical.{is_blank, is_loose, byte, skip, fixed, gap, line_end, leading}
 use Rattle.lexical.specs.Token.{token, span}
 use Rattle.hexadecimal.specs.Hex.{hex_of, hexv, hex_digit, is_mark, hex_start, hex_digits, hex_unit}
@@ -21,12 +20,11 @@ use Rattle.rows.specs.Rows.{whole}
 use Rattle.image.specs.Reading.{picture, reading}
 use Rattle.print.specs.Decimal.{digits}
 use Rattle.print.specs.Output.{joined}
-use Rattle.ink.specs.Ink.{ink_of}
-use Rattle.image.specs.Limited.{cells_of, after_header, limited, within}
-use Rattle.printing.specs.Printed.{hot_text, accepted_text, printed}
-use Rattle.listing.specs.Listing.{Listed, listed_within, listed, listing}
-use Rattle.grammar.specs.Grammar.{Mask, Header, Format}
-use Rattle.claims.specs.Terms.{head_of, Last, Begun, Lines, Possible, Same}
+use Rattle.image.specs.Limited.{after_header, limited, within}
+use Rattle.printing.specs.Printed.{hot_text}
+use Rattle.listing.specs.Listing.{listed_within, listed, listing}
+use Rattle.grammar.specs.Grammar.{Mask, Format}
+use Rattle.claims.specs.Terms.{Lines, Possible, Same}
 use Rattle.listing.specs.Sizes
 use Rattle.claims.proofs.Listings
 use Rattle.claims.specs.Masks.{table, given, wanted}

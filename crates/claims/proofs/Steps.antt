@@ -13,7 +13,7 @@ use Rattle.text.specs.Rest.{Walk, Reach, reach-inside, walk-sound, Sound}
 use Rattle.text.specs.Reader.{Result, ok, stop, bad, then, ◌>>=◌}
 use Rattle.text.specs.Leaf.{give}
 use Rattle.text.specs.Outcome.{outcome}
-use Rattle.body.specs.Data.{item, items, trailer, items-local, bytes_of}
+use Rattle.body.specs.Data.{item, items, trailer, items-local}
 use Rattle.decoder.specs.declared.XbmStreamDecoder.{XbmStreamDecoder}
 use Rattle.decoder.specs.Step.{foreign, called, placed_at, step_of}
 use Rattle.grammar.specs.Lang.{◌·◌}

@@ -1,17 +1,17 @@
 -- What the claims say of a text, where it takes a record. The claims stand in proofs/Claims, where also stands what to read to believe them.
-use Rattle.std.specs.Prelude.{◌≡◌, ◌↔◌, ◌⊎◌, ℕ, ◌+◌, ◌-◌, ◌*◌, ◌/◌, ◌≤◌, ◌<◌, min, List, [], ◌++◌, length, take, eqb}
+use Rattle.std.specs.Prelude.{◌≡◌, ◌↔◌, ◌⊎◌, ℕ, ◌+◌, ◌-◌, ◌*◌, ◌/◌, ◌≤◌, ◌<◌, min, List, ◌++◌, length, take, eqb}
 use Rattle.std.proofs.Math.Option.{none, some}
 use Rattle.std.proofs.Math.ListN.{get_elem?}
 use Rattle.text.specs.declared.TextLocation.{TextLocation}
 use Rattle.text.specs.Place.{byte_of, start, past}
-use Rattle.text.specs.Outcome.{accepted, refused, unplaced, outcome}
+use Rattle.text.specs.Outcome.{accepted, refused, outcome}
 use Rattle.header.specs.Header.{Head}
 use Rattle.body.specs.Data.{item, trailer}
 use Rattle.decoder.specs.Step.{placed_at, step_of}
 use Rattle.image.specs.Reading.{Reading, reading}
 use Rattle.grammar.specs.Lang.{◌·◌}
-use Rattle.grammar.specs.Grammar.{Mask, Header, Data, Format}
-use Rattle.claims.specs.Terms.{head_of, having, W, rows, Fitting, Rule, Last, Begun, Came, Stands, Mismatched, HeaderRefusal, symbol_of, Opening, over}
+use Rattle.grammar.specs.Grammar.{Mask, Header, Data}
+use Rattle.claims.specs.Terms.{having, W, rows, Rule, Last, Begun, Came, Stands, symbol_of, Opening, over}
 use Rattle.claims.specs.Steps.{calls, decoder_of}
 
 -- 1. ACCEPTS. Of an accepted text, for every such mask: the name handed back; the name buffer, the symbol's bytes and then as lent; each cell of the picture by the rule; every other cell as lent.

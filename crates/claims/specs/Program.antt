@@ -1,32 +1,15 @@
 -- What the claims on the program say of a listing, as records. The claims stand in proofs/Program.
-use Rattle.std.specs.Prelude.{◌≡◌, refl, ◌↔◌, ℕ, ◌*◌, ◌≤◌, ◌<◌, List, ◌++◌, map, length, take, drop, ℤ}
-use Rattle.std.proofs.Math.Option.{Option}
+use Rattle.std.specs.Prelude.{◌≡◌, ◌↔◌, ℕ, ◌*◌, ◌≤◌, ◌<◌, List, ◌++◌, length, take, drop}
 use Rattle.text.specs.declared.TextLocation.{TextLocation}
-use Rattle.text.specs.Place.{byte_of, start, past, after, rest}
-use Rattle.text.specs.Reader.{◌>>=◌}
-use Rattle.text.specs.Leaf.{give, want, need, one, run, fork, eot}
-use Rattle.text.specs.Outcome.{accepted, refused, unplaced}
-use Rattle.lexical.specs.Lexical.{is_blank, is_loose, byte, skip, fixed, gap, line_end, leading}
-use Rattle.lexical.specs.Token.{token, span}
-use Rattle.hexadecimal.specs.Hex.{hex_of, hexv, hex_digit, is_mark, hex_start, hex_digits, hex_unit}
-use Rattle.integer.specs.Decimal.{is_digit, digits_from}
-use Rattle.symbol.specs.Symbol.{ends_with, before, opening, stored}
-use Rattle.lines.specs.Lines.{positive, width_line, element, array_line}
-use Rattle.header.specs.Header.{Head, rest as rest_of, header}
-use Rattle.body.specs.Data.{item, items, brace, closing, tail, trailer, log_of}
-use Rattle.cells.specs.Cells.{cell, painted}
-use Rattle.rows.specs.Rows.{whole}
-use Rattle.image.specs.Reading.{picture, reading}
-use Rattle.print.specs.Decimal.{digits}
-use Rattle.print.specs.Output.{joined}
+use Rattle.text.specs.Place.{byte_of, start, past}
+use Rattle.text.specs.Outcome.{refused, unplaced}
+use Rattle.image.specs.Reading.{reading}
 use Rattle.ink.specs.Ink.{ink_of}
-use Rattle.image.specs.Limited.{cells_of, after_header, limited, within}
-use Rattle.printing.specs.Printed.{hot_text, accepted_text, printed}
-use Rattle.listing.specs.Listing.{Listed, listed_within, listed, listing}
-use Rattle.grammar.specs.Grammar.{Mask, Header, Format}
-use Rattle.claims.specs.Terms.{head_of, Last, Begun, Lines, Possible, Same}
-use Rattle.listing.specs.Sizes
-use Rattle.claims.specs.Masks.{table, given, wanted}
+use Rattle.image.specs.Limited.{cells_of}
+use Rattle.printing.specs.Printed.{accepted_text, printed}
+use Rattle.listing.specs.Listing.{Listed, listing}
+use Rattle.grammar.specs.Grammar.{Mask, Header}
+use Rattle.claims.specs.Terms.{head_of, Last, Begun}
 
 -- 2. LISTINGS. A text that writes m, that the limits let through, with cells enough for the picture; and its first n bytes.
 pub record Shown (text name cells : List ℕ) (m : Mask) (n : ℕ) : Type 0 where

@@ -1,20 +1,8 @@
 -- What can be printed: numbers of 64 bits, coordinates of 32.
-use Rattle.std.specs.Prelude.{◌≡◌, refl, ℕ, zero, suc, ◌+◌, ◌-◌, ◌*◌, ◌/◌, ◌%◌, ◌^◌, ◌<◌, List, [], ◌∷◌, ◌++◌, ltb, ℤ, pos, negsuc}
-use Rattle.std.proofs.Common.{ap, ◌∙◌, inl, inr, arith, pow-suc, append-nil, lt-ltb, le-ltb}
-use Prim.Native.String.{String}
-use Rattle.std.proofs.Math.Decide.{dec_lt}
+use Rattle.std.specs.Prelude.{◌^◌, ◌<◌, ℤ, pos, negsuc}
 use Rattle.std.proofs.Math.Option.{Option, none, some}
-use Rattle.text.specs.Ascii.{ascii}
-use Rattle.text.specs.Place.{pick}
 use Rattle.text.specs.Outcome.{Outcome, accepted, refused, unplaced}
-use Rattle.integer.specs.Decimal.{value_from}
 use Rattle.header.specs.Header.{Head}
-use Rattle.print.specs.Decimal.{digits, decimal, signed, digits_value}
-use Rattle.print.specs.Output.{joined}
-use Rattle.printing.specs.Printed.{hot_text, printed}
-use Rattle.grammar.specs.Lang.{Lang, Word, ◌·◌}
-use Rattle.grammar.specs.Grammar.{Digits, value, Decimal, Coordinate}
-use Rattle.claims.specs.Terms.{Field, Signed, HotWords, Lines}
 
 -- a coordinate's range, as numbers
 abbrev pub InRange : ℤ → Type 0

@@ -9,7 +9,7 @@ use Rattle.std.proofs.Math.IntN.{ℤ}
 use Rattle.text.specs.declared.TextLocation.{TextLocation}
 use Rattle.text.specs.Ascii.{ascii}
 use Rattle.text.specs.Yields.{Yields, yields-bind, yields-give}
-use Rattle.text.specs.Reader.{ok, Reader, ◌>>=◌}
+use Rattle.text.specs.Reader.{ok, Reader}
 use Rattle.lines.specs.Lines.{element, array_line, width_line}
 use Rattle.header.specs.Header.{Head, ending, hotspot, rest, header}
 use Rattle.grammar.specs.Lang.{Lang, Word, ◌·◌, All, Star}

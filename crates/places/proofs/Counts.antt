@@ -7,7 +7,7 @@ use Rattle.text.specs.Ascii.{ascii}
 use Rattle.text.specs.Place.{pick, after, start, past}
 use Rattle.text.specs.Rest.{newlines}
 use Rattle.grammar.specs.Lang.{All}
-use Rattle.grammar.proofs.Bind.{past-append, past-byte}
+use Rattle.grammar.proofs.Bind.{past-byte}
 use Rattle.places.specs.Terms.{Counted, sooner, line_start, Onward}
 
 -- the line: 2 ^ 64 - 1 stays

@@ -2,17 +2,13 @@
 -- it, read: the grammar (Lang and Grammar), the reading that all contracts cite (Reading and what it names), Terms of
 -- `claims` and of `refusals`, Savable (the words used here, and what it names), the record of specs/Earliest, and the
 -- statements of this file. Every proof below is a citation.
-use Rattle.std.specs.Prelude.{◌≡◌, ◌⊎◌, ℕ, ◌*◌, ◌≤◌, ◌<◌, List, ◌++◌, length, ℤ}
+use Rattle.std.specs.Prelude.{◌≡◌, ℕ, ◌<◌, List}
 use Rattle.text.specs.declared.TextLocation.{TextLocation}
-use Rattle.text.specs.Ascii.{ascii}
 use Rattle.text.specs.Place.{byte_of}
 use Rattle.text.specs.Outcome.{refused}
 use Rattle.image.specs.Reading.{reading}
-use Rattle.grammar.specs.Lang.{Lang, Word, Lit, ◌·◌}
-use Rattle.grammar.specs.Grammar.{Mask, Side, Coordinate, Array, Header, Data, Closing, Format}
-use Rattle.claims.specs.Terms.{Begun, Opening, W, rows}
-use Rattle.refusals.specs.Terms.{Front, Sides, Third, Fourth, No}
-use Rattle.places.specs.Savable.{Savable, SavableLine, SavableDefine, BeforeWidth, Width, GoodSymbol, Stuck, Read}
+use Rattle.grammar.specs.Lang.{Lang}
+use Rattle.places.specs.Savable.{Savable, SavableLine, Width}
 use Rattle.places.proofs.EarliestWidth
 use Rattle.places.proofs.EarliestRows
 use Rattle.places.proofs.EarliestArray

@@ -8,8 +8,8 @@ use Rattle.text.specs.Outcome.{accepted, refused, ending_at, shown}
 use Rattle.header.specs.Header.{Head, header}
 use Rattle.image.specs.Reading.{reading}
 use Rattle.grammar.specs.Grammar.{Mask, Header}
-use Rattle.claims.specs.Terms.{head_of, Aligned}
-use Rattle.places.specs.Terms.{Counted, line_start, Onward, Looked, How}
+use Rattle.claims.specs.Terms.{head_of}
+use Rattle.places.specs.Terms.{Counted, line_start, Onward, Looked}
 use Rattle.places.proofs.Counts
 use Rattle.places.proofs.Opening
 use Rattle.places.proofs.Telling

@@ -2,10 +2,7 @@
 use Rattle.std.specs.Prelude.{◌≡◌, ◌⊎◌, ℕ, ◌*◌, ◌≤◌, ◌<◌, List, ◌++◌, length, ℤ}
 use Rattle.text.specs.declared.TextLocation.{TextLocation}
 use Rattle.text.specs.Ascii.{ascii}
-use Rattle.text.specs.Place.{byte_of}
-use Rattle.text.specs.Outcome.{refused}
-use Rattle.image.specs.Reading.{reading}
-use Rattle.grammar.specs.Lang.{Lang, Word, Lit, ◌·◌}
+use Rattle.grammar.specs.Lang.{Word, Lit, ◌·◌}
 use Rattle.grammar.specs.Grammar.{Mask, Side, Coordinate, Array, Header, Data, Closing, Format}
 use Rattle.claims.specs.Terms.{Begun, Opening, W, rows}
 use Rattle.refusals.specs.Terms.{Front, Sides, Third, Fourth, No}

@@ -1,13 +1,11 @@
 -- What the claim on places says of a refusal, as a record. The claims stand in proofs/Places.
-use Rattle.std.specs.Prelude.{◌≡◌, ℕ, ◌-◌, ◌≤◌, List, ◌++◌, length, take}
+use Rattle.std.specs.Prelude.{◌≡◌, ℕ, ◌≤◌, List, length, take}
 use Rattle.text.specs.declared.TextLocation.{TextLocation}
 use Rattle.text.specs.Place.{byte_of, start, past}
-use Rattle.text.specs.Outcome.{accepted, refused, ending_at, shown}
-use Rattle.header.specs.Header.{Head, header}
+use Rattle.text.specs.Outcome.{refused}
 use Rattle.image.specs.Reading.{reading}
-use Rattle.grammar.specs.Grammar.{Mask, Header}
-use Rattle.claims.specs.Terms.{head_of, Aligned}
-use Rattle.places.specs.Terms.{Counted, line_start, Onward, Looked, How}
+use Rattle.claims.specs.Terms.{Aligned}
+use Rattle.places.specs.Terms.{Counted, How}
 
 -- 1. TELLS. Of a refusal with number c and place p, for every text, name buffer and pixel buffer.
 pub record Tells (text name pixels : List ℕ) (c : ℕ) (p : TextLocation) : Type 0 where

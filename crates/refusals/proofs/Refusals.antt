@@ -1,22 +1,17 @@
 -- THE CLAIMS ON REFUSALS: which number comes, of a text and of a lent decoder, and what is left in the decoder and in the name buffer. To believe
 -- them, read the grammar (Lang, Grammar), the words (Terms here, in claims and in faults), the records of specs/Refusals and the statements of this file. No reader stands in a statement but `reading` and
 -- `step_of`, which the contracts of the code cite. Every proof below is a citation. Where a refusal is told: places.
-use Rattle.std.specs.Prelude.{◌≡◌, ◌↔◌, ℕ, ◌+◌, ◌-◌, ◌≤◌, ◌<◌, List, ◌++◌, length, take}
-use Rattle.std.proofs.Math.Option.{none, some}
+use Rattle.std.specs.Prelude.{◌≡◌, ◌↔◌, ℕ, List, length}
+use Rattle.std.proofs.Math.Option.{none}
 use Rattle.text.specs.declared.TextLocation.{TextLocation}
-use Rattle.text.specs.Place.{byte_of, past}
-use Rattle.text.specs.Outcome.{Outcome, accepted, refused, unplaced}
+use Rattle.text.specs.Outcome.{accepted, refused, unplaced}
 use Rattle.integer.specs.declared.Fault.TheVariants.{Empty, LeadingZero, NotDigit, OutOfRange}
-use Rattle.header.specs.Header.{Head}
 use Rattle.decoder.specs.declared.XbmStreamDecoder.{XbmStreamDecoder}
-use Rattle.decoder.specs.Step.{Step, step_of}
+use Rattle.decoder.specs.Step.{step_of}
 use Rattle.image.specs.Reading.{reading}
-use Rattle.grammar.specs.Lang.{◌·◌}
-use Rattle.grammar.specs.Grammar.{Loose, Closing}
-use Rattle.faults.specs.Terms.{Nothing, ZeroLed, Marred, Above, PastSign, Beyond}
-use Rattle.claims.specs.Terms.{Begun, Mismatched, over, Aligned}
+use Rattle.claims.specs.Terms.{over}
 use Rattle.claims.proofs.Mismatch
-use Rattle.refusals.specs.Terms.{Placed, InTable, NoWidthLine, BadWidth, ZeroWidth, NoHeightLine, BadHeight, ZeroHeight, NoXLine, BadX, NoYLine, BadY, NoArrayLine, NoDataByte, NoClosing, MoreBehind, No, Foreign, size_of, ahead, moved, Spent, Item, Stores}
+use Rattle.refusals.specs.Terms.{InTable, Foreign, moved, Spent, Stores}
 use Rattle.refusals.proofs.Table
 use Rattle.refusals.proofs.HeaderRows
 use Rattle.refusals.proofs.HotspotRows

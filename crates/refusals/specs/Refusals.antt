@@ -5,16 +5,14 @@ use Rattle.std.proofs.Math.Option.{none, some}
 use Rattle.text.specs.declared.TextLocation.{TextLocation}
 use Rattle.text.specs.Place.{byte_of, past}
 use Rattle.text.specs.Outcome.{Outcome, accepted, refused, unplaced}
-use Rattle.integer.specs.declared.Fault.TheVariants.{Empty, LeadingZero, NotDigit, OutOfRange}
 use Rattle.header.specs.Header.{Head}
 use Rattle.decoder.specs.declared.XbmStreamDecoder.{XbmStreamDecoder}
-use Rattle.decoder.specs.Step.{Step, step_of}
-use Rattle.image.specs.Reading.{reading}
+use Rattle.decoder.specs.Step.{Step}
 use Rattle.grammar.specs.Lang.{◌·◌}
 use Rattle.grammar.specs.Grammar.{Loose, Closing}
 use Rattle.faults.specs.Terms.{Nothing, ZeroLed, Marred, Above, PastSign, Beyond}
-use Rattle.claims.specs.Terms.{Begun, Mismatched, over, Aligned}
-use Rattle.refusals.specs.Terms.{Placed, InTable, NoWidthLine, BadWidth, ZeroWidth, NoHeightLine, BadHeight, ZeroHeight, NoXLine, BadX, NoYLine, BadY, NoArrayLine, NoDataByte, NoClosing, MoreBehind, No, Foreign, size_of, ahead, moved, Spent, Item, Stores}
+use Rattle.claims.specs.Terms.{Begun, Mismatched, Aligned}
+use Rattle.refusals.specs.Terms.{Placed, NoWidthLine, BadWidth, ZeroWidth, NoHeightLine, BadHeight, ZeroHeight, NoXLine, BadX, NoYLine, BadY, NoArrayLine, NoDataByte, NoClosing, MoreBehind, No, Foreign, size_of, ahead, moved, Item}
 
 -- 1. NUMBERS. Document 01's table of refusals, with an integer's four faults: each number comes exactly if all before it stands at the text's start
 -- and its own condition holds.

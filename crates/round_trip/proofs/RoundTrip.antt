@@ -1,22 +1,20 @@
 -- THE CLAIMS ON THE WRITER: what it refuses, what it writes, and that what is written is read again as it was. To believe them, read the grammar, the
 -- reading, `writing` (what the writer's contract cites), Terms (the words used here), the records of specs/RoundTrip and the
 -- statements of this file. Every proof below is a citation.
-use Rattle.std.specs.Prelude.{◌≡◌, ◌⊎◌, ℕ, ◌*◌, ◌≤◌, ◌<◌, List, ◌++◌, length, take, drop, ℤ}
+use Rattle.std.specs.Prelude.{◌≡◌, ℕ, ◌*◌, ◌≤◌, ◌<◌, List, length, take, ℤ}
 use Rattle.std.proofs.Math.Option.{Option}
-use Rattle.text.specs.Outcome.{accepted, unplaced}
+use Rattle.text.specs.Outcome.{accepted}
 use Rattle.header.specs.Header.{Head}
 use Rattle.image.specs.Reading.{reading}
-use Rattle.print.specs.Output.{Output}
-use Rattle.listing.specs.Listing.{listed, listing}
 use Rattle.writer.specs.Written.{written}
-use Rattle.writer.specs.Writing.{Writing, writing}
+use Rattle.writer.specs.Writing.{writing}
 use Rattle.program.specs.Program.{Holds}
 use Rattle.rewriting.specs.Rewriting.{rewriting}
 use Rattle.rewriting.specs.Program.{RewritesInput}
 use Rattle.grammar.specs.Grammar.{Mask, Format}
 use Rattle.claims.specs.Terms.{head_of, Fitting}
 use Rattle.claims.specs.Written.{Hots}
-use Rattle.round_trip.specs.Terms.{mask_of, BadName, BadCell, Taken, Back, picture_of, text_of, at_start, Layout, Padded}
+use Rattle.round_trip.specs.Terms.{mask_of, Taken, Back, picture_of, text_of, Layout, Padded}
 use Rattle.round_trip.proofs.Answers as Answer
 use Rattle.round_trip.proofs.Back as Reads
 use Rattle.round_trip.proofs.LaidOut

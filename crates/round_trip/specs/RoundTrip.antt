@@ -8,13 +8,8 @@ use Rattle.print.specs.Output.{Output}
 use Rattle.listing.specs.Listing.{listed, listing}
 use Rattle.writer.specs.Written.{written}
 use Rattle.writer.specs.Writing.{Writing, writing}
-use Rattle.program.specs.Program.{Holds}
 use Rattle.rewriting.specs.Rewriting.{rewriting}
-use Rattle.rewriting.specs.Program.{RewritesInput}
-use Rattle.grammar.specs.Grammar.{Mask, Format}
-use Rattle.claims.specs.Terms.{head_of, Fitting}
-use Rattle.claims.specs.Written.{Hots}
-use Rattle.round_trip.specs.Terms.{mask_of, BadName, BadCell, Taken, Back, picture_of, text_of, at_start, Layout, Padded}
+use Rattle.round_trip.specs.Terms.{BadName, BadCell, Taken, Back, text_of, at_start}
 
 -- 1. ANSWERS. Of everything that can be lent: each number is answered where its condition is the first to arise, and the output is then as lent;
 -- else the whole text stands at the output's start, its length is answered, and what follows it is as lent.
