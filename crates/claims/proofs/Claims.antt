@@ -72,7 +72,7 @@ headless = Headless.headless
 
 pub untouched : (text name pixels : List ℕ) → HeaderRefusal (reading text name pixels).answer
     → ((reading text name pixels).name ≡ []) × ((reading text name pixels).pixels ≡ pixels)
-untouched = Headless.untouched
+untouched text name pixels x = let (n, p) = Headless.untouched text name pixels x in (n, p)
 
 -- 6. CELLS. Where the text begins with a header, whatever the answer.
 pub keeps : (text name pixels : List ℕ) (m : Mask) → Begun (Header (length name) m) text → Kept text name pixels m (reading text name pixels)

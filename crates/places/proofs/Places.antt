@@ -37,7 +37,7 @@ looks = Looking.refused-there
 -- 3. OPENS. An accepted header tells the place after it, by the same counts.
 pub opens : (text name : List ℕ) (h : Head) (p : TextLocation) → shown (header (length name) text start) ≡ accepted (ending_at h p)
     → (m : Mask) × (u : List ℕ) × (v : List ℕ) × (head_of m ≡ h) × (text ≡ u ++ v) × Header (length name) m u × (p ≡ past start u) × Counted u p
-opens = Opening.opens
+opens text name h p a = let (m, u, v, e, q, k, o, c) = Opening.opens text name h p a in (m, u, v, e, q, k, o, c)
 
 -- 4. STARTS. After n bytes of a text the line starts behind the last newline among them, and the column counts the bytes since.
 pub starts : (text : List ℕ) (n : ℕ) → n ≤ length text
