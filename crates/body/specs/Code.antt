@@ -1,6 +1,6 @@
 -- Parts of the definitions as the code reads them.
 use Rattle.std.specs.Prelude.{Bool, true, false}
-use Rattle.text.specs.Reader.{Reader, ◌>>=◌, ◌>>◌}
+use Rattle.text.specs.Reader.{Reader, ◌>>◌}
 use Rattle.text.specs.Leaf.{give, eot}
 use Rattle.lexical.specs.Lexical.{is_loose, skip, byte, is}
 

@@ -1,5 +1,6 @@
 // The body of the array: a data byte with what stands before it, and the trailer.
 #![tactic(auto)]
+
 ghost use Rattle.std.specs.Prelude.{◌≡◌, false};
 ghost use Rattle.lexical.specs.Lexical.{told, told_byte, onto, skip, is_loose};
 ghost use Rattle.body.specs.Data.{item, brace, closing, trailer};

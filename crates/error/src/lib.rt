@@ -1,5 +1,6 @@
 // The errors of a reading, and the number and the place that are told of each.
 #![tactic(auto)]
+
 ghost use Rattle.std.specs.Prelude.{◌≡◌};
 ghost use Rattle.error.specs.Error.{integer_number, refusal_of};
 

@@ -1,5 +1,6 @@
 // Hexadecimal bytes: the digits, their table, and a number of two digits with its `0x`.
 #![tactic(auto)]
+
 ghost use Rattle.std.specs.Prelude.{◌≡◌};
 ghost use Rattle.lexical.specs.Lexical.{number, told, told_byte, byte};
 ghost use Rattle.hexadecimal.specs.Hex.{hex_of, hex_table, is_mark, hex_digit, hex_start, hex_byte};

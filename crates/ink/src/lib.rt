@@ -1,5 +1,6 @@
 // The cells of a picture, and how many are ink.
 #![tactic(auto)]
+
 ghost use Rattle.std.specs.Prelude.{◌≡◌, ◌*◌, min, take};
 ghost use Rattle.ink.specs.Ink.{ink_at, ink_of};
 

@@ -1,5 +1,6 @@
 // Decimal integers, rejecting leading + and leading zeros; and what is wrong with a token that is none.
 #![tactic(auto)]
+
 ghost use Rattle.std.specs.Prelude.{min, ◌≡◌};
 ghost use Rattle.integer.specs.Decimal.{parse_u32, parse_i32, digits_of, positive, negative, fault_number};
 

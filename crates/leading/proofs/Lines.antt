@@ -18,12 +18,12 @@ use Rattle.text.specs.declared.Peeked.TheVariants.{Found, Nothing}
 use Rattle.text.specs.Place.{pick, has_left, along_line, past_line, rest, after, past, byte_of, peeked, peeked_at}
 use Rattle.text.specs.Rest.{Sound, after-rest, newlines}
 use Rattle.text.specs.PlaceLaws.{sound-rest, left-inside, left-none, along-past, line-past}
-use Rattle.text.specs.Reader.{Result, ok, stop, then, ◌>>=◌, ◌>>◌}
+use Rattle.text.specs.Reader.{Result, ok, stop, then, ◌>>=◌}
 use Rattle.text.specs.Leaf.{one, run, scan}
 use Rattle.lexical.specs.declared.XbmPart.{XbmPart}
 use Rattle.lexical.specs.declared.Passed.{Passed}
 use Rattle.lexical.specs.declared.Passed.TheVariants.{To, Refused}
-use Rattle.lexical.specs.Lexical.{number, told, is, byte, skip, lead, leading}
+use Rattle.lexical.specs.Lexical.{number, told, byte, skip, lead, leading}
 use Rattle.leading.specs.Line.{line_of, in_line, line_rest}
 
 -- ---- where a line ends

@@ -1,7 +1,7 @@
 -- A line, up to its newline.
 use Rattle.std.specs.Prelude.{ℕ, List, [], ◌∷◌, Bool, true, false, eqb}
 use Rattle.text.specs.Place.{pick}
-use Rattle.text.specs.Reader.{Reader, ◌>>=◌, ◌>>◌}
+use Rattle.text.specs.Reader.{Reader, ◌>>◌}
 use Rattle.lexical.specs.Lexical.{skip, byte, is}
 
 -- the bytes before the first newline

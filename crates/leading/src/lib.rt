@@ -1,5 +1,6 @@
 // The lines before the first define line, skipped whole. Only this crate knows how a line's end is found.
 #![tactic(auto)]
+
 ghost use Rattle.std.specs.Prelude.{true, ◌≡◌, ◌+◌, length, drop};
 ghost use Rattle.lexical.specs.Lexical.{number, told, leading};
 ghost use Rattle.leading.specs.Line.{line_of, line_rest};

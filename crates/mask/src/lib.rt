@@ -1,5 +1,6 @@
 // A mask in memory, its sides and its cells: what is wrong with it.
 #![tactic(auto)]
+
 ghost use Rattle.std.specs.Prelude.{◌≡◌};
 ghost use Rattle.mask.specs.Fault.{is_cell, all_cells, fault};
 

@@ -1,3 +1,2 @@
 -- What the proofs of `name` share, by module.
-pub mod Lending
 pub mod Laws

@@ -11,7 +11,7 @@ use mathlib.Core.Bool.{true, false, false≢true}
 use native.Mathlib.Numerals.{add-one}
 use borrow.Author.Tests.{lt-ltb, le-ltb, ltb-true}
 use mathlib.Core.Path.{◌≡◌, refl, sym, ap, ◌∙◌}
-use mathlib.Core.List.{List, [], ◌∷◌, ◌++◌, append-nil}
+use mathlib.Core.List.{List, [], ◌∷◌, append-nil}
 use lib.ListN.{length, drop, set, get_or, drop_of_length-le}
 use lib.Seq.{drop-cons}
 use Rattle.print.specs.Output.{Output, output, put, puts, joined, puts-append}

@@ -1,5 +1,6 @@
 // Bytes and decimal numbers put into a lent buffer, one after another.
 #![tactic(auto)]
+
 ghost use Rattle.std.specs.Prelude.{◌≡◌};
 ghost use Rattle.print.specs.Output.{output, put, puts};
 ghost use Rattle.print.specs.Decimal.{decimal, signed};

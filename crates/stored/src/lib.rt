@@ -1,5 +1,6 @@
 // A record of the stored answers: what is lent in a case, and what the original answered. docs/REPLAY.md tells the format.
 #![tactic(auto)]
+
 ghost use Rattle.std.specs.Prelude.{◌≡◌, ◌<◌};
 ghost use Rattle.stored.specs.Record.{byte_at, number_at, told_in, record_in, counts_as, name_on, hotspot_on, sides_on, place_on, verdict_on};
 

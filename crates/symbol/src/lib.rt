@@ -1,5 +1,6 @@
 // The width's symbol, which has the name in it: what precedes it, and its bytes, stored in a lent buffer.
 #![tactic(auto)]
+
 ghost use Rattle.std.specs.Prelude.{◌≡◌, length};
 ghost use Rattle.text.specs.Place.{start};
 ghost use Rattle.lexical.specs.Lexical.{told};

@@ -1,5 +1,6 @@
 // A text reader: the lent text and the place in it. Thin methods over functions on slice and place.
 #![tactic(auto)]
+
 ghost use Rattle.std.specs.Prelude.{◌≡◌};
 ghost use Rattle.text.specs.Place.{start};
 ghost use Rattle.text_reader.specs.TextReader.{moved_at, next_of, moved_on};

@@ -1,0 +1,18 @@
+-- What the search leaves of `read_coordinate_line`.
+use Rattle.std.proofs.Common.{rules}
+use Rattle.hotspot.proofs.Told.{hotspot_laws}
+use Rattle.lines.proofs.Laws.{size_laws}
+use Rattle.hotspot.specs.Hotspot.{coordinate_line}
+use Rattle.hotspot.proofs.read_coordinate_line.Goals as goal
+
+pub returns-in-Number : goal.returns-in-Number
+unfolding coordinate_line
+returns-in-Number c = search (size_laws, hotspot_laws, rules)
+
+pub returns-in-Wrong : goal.returns-in-Wrong
+unfolding coordinate_line
+returns-in-Wrong c = search (size_laws, hotspot_laws, rules)
+
+pub returns-in-Refused : goal.returns-in-Refused
+unfolding coordinate_line
+returns-in-Refused c = search (size_laws, hotspot_laws, rules)

@@ -1,0 +1,13 @@
+-- What the search leaves of `skip_line`.
+use Rattle.std.proofs.Common.{rules}
+use Rattle.leading.proofs.Lines.{line_laws}
+use Rattle.leading.proofs.skip_line.Goals as goal
+
+pub returns-then-end-text : goal.returns-then-end-text
+returns-then-end-text c = search (line_laws, rules)
+
+pub returns-then-has_left : goal.returns-then-has_left
+returns-then-has_left c = search (line_laws, rules)
+
+pub returns : goal.returns
+returns c = search (line_laws, rules)
