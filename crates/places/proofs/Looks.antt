@@ -345,7 +345,7 @@ module _ (limit : ℕ) (t : List ℕ) (c : ℕ) (p : TextLocation) where
   found (symbol-long x) =
       let (n, w, b, v, q, a, l, s, z) = x.check in
       let (u, k, d, o) = placed Opening x.place w (b ∷ v) x.word q z in
-      inr (rw n (long-symbol u w b (v, d, o) k a l s))
+      inr (rw n (long-symbol u w b (v, d, o) k a (omega (arith, l)) s))
   found (token-long n x) =
       let (g, w, b, v, q, a, l, s, z) = x.check in
       let (u, k, d, o) = placed (Lead limit n) x.place w (b ∷ v) x.word q z in
