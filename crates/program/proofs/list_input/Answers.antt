@@ -1,0 +1,13 @@
+-- The law `lists-input`, whose premises are the sizes in the types.
+use Rattle.std.proofs.Common.{rules}
+use Rattle.program.proofs.Laws.{lists-input}
+use Rattle.program.proofs.list_input.Goals as goal
+
+pub returns : goal.returns
+returns c =
+    let came = c.at_most-came in
+    lists-input _ _ came.result _ _ _ _ _ c.list.ensures came.ensures
+    (search rules)  -- the text
+    (search rules)  -- the output
+    (search rules)  -- the name
+    (search rules)  -- the cells
