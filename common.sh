@@ -21,12 +21,12 @@ closed=
     exec </dev/null
 }
 
-program=$root/target/bin/$crate
-stamp=$root/target/stamp/$crate # rt writes it once the program is proved, built and tried
+program=$root/crates/$crate/out/$crate
+stamp=$program.stamp # rt writes it once the program is proved and built; `build` takes it away where the program is then tried in vain
 
 # The crates of this repository that the program is made of, as crates.txt has them; and their files beside src/lib.rt.
-parts="text lexical hex integer error leading symbol lines hotspot header body cells ink rows image print printing listing program input $own $crate"
-others="hex/src/hex_table.rt $crate/src/main.rt"
+parts="text lexical hexadecimal integer error leading symbol lines hotspot header body cells ink rows image print printing listing program input $own $crate"
+others="hexadecimal/src/hex_table.rt $crate/src/main.rt"
 
 # Reads the words of the call: how many files there are and the last of them, how often standard input is one, and whether
 # help or the version is asked for.
@@ -109,7 +109,7 @@ ready() {
         if lacking; then
             put "$name: the program $why$newline"
         else
-            read -r digest <"$stamp"
+            digest=$(cut -c 1-64 <"$stamp")
             put "$name, proved: sources and toolchain $digest$newline"
         fi
         ;;
@@ -121,27 +121,32 @@ ready() {
     exit 0
 }
 
+# What rt makes of a crate is in its folder out/.
 writable() {
-    if [ ! -d "$root/target" ]; then
-        [ -w "$root/" ]
-        return
-    fi
-    for folder in "$root/target" "$root"/target/*/; do
-        if [ ! -w "$folder" ]; then return 1; fi
+    for part in $parts; do
+        part=$root/crates/$part
+        if [ ! -d "$part/out" ] && [ ! -w "$part" ]; then return 1; fi
+        for folder in "$part/out" "$part"/out/*/; do
+            if [ -d "$folder" ] && [ ! -w "$folder" ]; then return 1; fi
+        done
     done
 }
 
-# Keeps what rt says, and tells of each crate that is proved.
+# Keeps what rt says, and tells of each crate that is proved. Of one that is unchanged rt says nothing.
 tell() {
-    proved=0
+    proved=0 named=''
     # shellcheck disable=SC2086
     set -- $parts
     while IFS= read -r line; do
         printf '%s\n' "$line" >>"$work/log"
         case $line in
-        'rt: '*' proved ('*)
+        'crate '*': '*)
+            named=${line#crate }
+            named=${named%%:*}
+            ;;
+        'logic=proved '*)
             proved=$((proved + 1))
-            complain "$proved of $#: ${line#rt: }"
+            complain "$proved of at most $#: $named proved"
             ;;
         esac
     done
@@ -149,10 +154,10 @@ tell() {
 
 # Proves and builds the program, one call at a time, and tells how far it is.
 build() {
-    writable || fail "the program $why, and $root/target cannot be written: build it where it can be (rt check $crate)"
+    writable || fail "the program $why, and $root/crates cannot be written: build it where it can be (rt run in crates/$crate)"
     command -v rt >/dev/null || fail "the program $why, and the toolchain that proves and builds it (rt) is not found"
     temporary "the program $why, and "
-    mkdir -p "$root/target" && exec 9<"$root/target"
+    exec 9<"$root/crates/$crate"
     if command -v flock >/dev/null && ! flock -n 9; then
         complain "waiting for another call, which builds the program"
         flock 9
@@ -160,8 +165,12 @@ build() {
     if lacking; then
         complain "the program $why: proving and building it, some minutes the first time"
         : >"$work/began"
-        { (cd "$root/" && rt check "$crate") </dev/null 2>&1 && : >"$work/proved"; } | tell
+        {
+            (cd "$root/crates/$crate" && rt run <stdin) 2>&1 >"$work/tried" &&
+                cmp "$work/tried" "$root/crates/$crate/stdout" 2>&1 && : >"$work/proved"
+        } | tell
         if [ ! -f "$work/proved" ]; then
+            rm -f -- "$stamp"
             tail -n 20 "$work/log" >&2
             fail "the program is not built: the proof or the build failed"
         fi

@@ -7,7 +7,7 @@ use std::{env, fs};
 const ROOT: &str = "..";
 
 /// Where the library is written, seen from the repository's root.
-const LIBRARY_DIR: &str = "target/staticlib";
+const LIBRARY_DIR: &str = "crates/xbm_c/out";
 
 fn main() {
     println!("cargo::rustc-check-cfg=cfg(has_original)");
@@ -37,7 +37,7 @@ fn main() {
         let shown = library.display();
         println!("cargo::warning=the proved reader is not at {shown}");
         println!(
-            "cargo::warning=make it with `rt staticlib xbm_c`, or set XBM_LIB_DIR to its folder"
+            "cargo::warning=make it with `rt lib` in crates/xbm_c, or set XBM_LIB_DIR to its folder"
         );
         println!("cargo::warning=until then `compare` and `bench` only say that it is missing");
     }

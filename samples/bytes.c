@@ -1,6 +1,6 @@
 /* Reads the data bytes of a mask on standard input through the C interface, one a call, and tells after each where the decoder stands.
  *
- * gcc -O2 -Wall -Wextra samples/bytes.c -Ltarget/staticlib -lxbm_c -o target/bytes
+ * gcc -O2 -Wall -Wextra samples/bytes.c -Lcrates/xbm_c/out -lxbm_c -o bytes
  */
 #include <inttypes.h>
 #include <stdint.h>

@@ -2,7 +2,7 @@
  *
  * usage: list [FILE]      (standard input if no file is named)
  *
- * gcc -O2 -Wall -Wextra samples/list.c -Ltarget/staticlib -lxbm_c -o target/list
+ * gcc -O2 -Wall -Wextra samples/list.c -Lcrates/xbm_c/out -lxbm_c -o list
  */
 #include <inttypes.h>
 #include <stdint.h>

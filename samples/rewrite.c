@@ -1,6 +1,6 @@
 /* Rewrites a mask on standard input through the C interface: prints its text in the one layout, or why it is refused.
  *
- * gcc -O2 -Wall -Wextra samples/rewrite.c -Ltarget/staticlib -lxbm_c -o target/rewrite
+ * gcc -O2 -Wall -Wextra samples/rewrite.c -Lcrates/xbm_c/out -lxbm_c -o rewrite
  */
 #include <inttypes.h>
 #include <stdint.h>

@@ -16,7 +16,7 @@ const FOLDERS: [&str; 3] = ["src", "specs", "proofs"];
 
 /// Said where there is no library.
 const MISSING: &str =
-    "built without the proved reader: run `rt staticlib xbm_c` in the repository's root, \
+    "built without the proved reader: run `rt lib` in crates/xbm_c, \
      or set XBM_LIB_DIR to the folder of libxbm_c.a, and build again";
 
 /// The library's calls, or why they tell nothing of the crates.
@@ -31,7 +31,7 @@ pub fn linked() -> Result<Interface, String> {
 /// Why the library at this path, which was linked when it was made then, is not what the sources make.
 fn refusal(root: &Path, library: &Path, linked: &str) -> Option<String> {
     let shown = library.display();
-    let remake = "run `rt staticlib xbm_c` in the repository's root and build again";
+    let remake = "run `rt lib` in crates/xbm_c and build again";
     let Ok(made) = fs::metadata(library).and_then(|about| about.modified()) else {
         return Some(format!("the proved reader is gone from {shown}: {remake}"));
     };
@@ -75,14 +75,14 @@ fn newer_source(root: &Path, made: SystemTime) -> io::Result<Option<PathBuf>> {
     Ok(None)
 }
 
-/// The library's crate and all that it stands on, from lines `name: names`.
+/// The library's crate and all that it stands on, from lines `name: names`, where words on its kind may follow the name.
 fn closure(list: &str) -> Vec<String> {
     let mut found = vec![CRATE.to_string()];
     let mut done = 0;
     while done < found.len() {
         let below = list.lines().find_map(|line| {
             let (name, below) = line.split_once(':')?;
-            (name == found[done]).then_some(below)
+            (name.split_whitespace().next() == Some(&found[done])).then_some(below)
         });
         for name in below.unwrap_or("").split_whitespace() {
             if !found.iter().any(|known| known == name) {
@@ -128,7 +128,7 @@ mod tests {
             for source in SOURCES {
                 let path = checkout.root.join(source);
                 fs::create_dir_all(path.parent().unwrap()).unwrap();
-                let list = "# crates\ntext:\nimage: text io\nclaims: image\nxbm_c: image\n";
+                let list = "# crates\ntext:\nimage: text io\nclaims: image\nxbm_c staticlib: image\n";
                 fs::write(path, if source == "crates.txt" { list } else { "" }).unwrap();
             }
             checkout.touch("libxbm_c.a", 100);

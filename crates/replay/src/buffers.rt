@@ -7,10 +7,8 @@ fn filling(i: usize) -> u8 {
 }
 
 pub fn fill(buffer: &mut [u8]) {
-    let mut i = 0;
-    while i < buffer.len() {
-        buffer[i] = filling(i);
-        i += 1;
+    for (i, cell) in buffer.iter_mut().enumerate() {
+        *cell = filling(i);
     }
 }
 
@@ -19,8 +17,8 @@ const MODULUS: u64 = 4294967291;
 
 // One more digit to the base 257.
 fn add_digit(sum: u64, digit: u8) -> u64
-    requires { sum < 4294967291 }
-    ensures { result < 4294967291 }
+    requires { sum < MODULUS }
+    ensures { result < MODULUS }
 {
     (sum * 257 + (digit as u64)) % MODULUS
 }
@@ -28,10 +26,8 @@ fn add_digit(sum: u64, digit: u8) -> u64
 // The cells as the digits of a number, modulo a prime.
 pub fn sum(cells: &[u8]) -> u64 {
     let mut sum: u64 = 0;
-    let mut i = 0;
-    while i < cells.len() {
-        sum = add_digit(sum, cells[i]);
-        i += 1;
+    for cell in cells {
+        sum = add_digit(sum, *cell);
     }
     sum
 }

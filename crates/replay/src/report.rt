@@ -1,14 +1,6 @@
 // What the program prints.
-use libc::STDOUT_FILENO;
+use std::io;
 use stored::{NUMBERS, Verdict};
-
-fn print(bytes: &[u8]) {
-    io::write_all(STDOUT_FILENO, bytes);
-}
-
-fn print_number(n: u64) {
-    io::print_decimal(STDOUT_FILENO, n);
-}
 
 // Whether a number is one that the original gives, 0 for accepted.
 pub fn is_given(number: u64) -> bool {
@@ -19,62 +11,55 @@ pub fn is_given(number: u64) -> bool {
 }
 
 // Says that the list ends or goes on otherwise than it should.
-pub fn print_malformed(case: u64) {
-    print(b"malformed at case ");
-    print_number(case);
-    print(b"\n");
+pub fn print_malformed(to: &impl Print, case: u64) -> io::Result<()> {
+    println!(to; "malformed at case {case}")
 }
 
-fn print_verdict(verdict: Verdict) {
+fn print_verdict(to: &impl Print, verdict: Verdict) -> io::Result<()> {
     match verdict {
-        Verdict::Same => print(b"nothing"),
-        Verdict::Number => print(b"number"),
-        Verdict::Place => print(b"place"),
-        Verdict::Sides => print(b"sides"),
-        Verdict::Hotspot => print(b"hotspot"),
-        Verdict::Name => print(b"name"),
-        Verdict::Cells => print(b"cells"),
-        Verdict::Malformed => print(b"malformed"),
+        Verdict::Same => to.print("nothing"),
+        Verdict::Number => to.print("number"),
+        Verdict::Place => to.print("place"),
+        Verdict::Sides => to.print("sides"),
+        Verdict::Hotspot => to.print("hotspot"),
+        Verdict::Name => to.print("name"),
+        Verdict::Cells => to.print("cells"),
+        Verdict::Malformed => to.print("malformed"),
     }
 }
 
 // Says in what a case differs.
-pub fn print_difference(case: u64, verdict: Verdict) {
-    print(b"case ");
-    print_number(case);
-    print(b" differs: ");
-    print_verdict(verdict);
-    print(b"\n");
+pub fn print_difference(to: &impl Print, case: u64, verdict: Verdict) -> io::Result<()> {
+    print!(to; "case {case} differs: ")?;
+    print_verdict(to, verdict)?;
+    println!(to; "")
 }
 
 // How often a number was tried.
-fn print_count(number: u64, count: u64) {
+fn print_count(to: &impl Print, number: u64, count: u64) -> io::Result<()> {
     if number == 0 {
-        print(b"accepted: ");
+        println!(to; "accepted: {count}")
     } else {
-        print(b"refused ");
-        print_number(number);
-        print(b": ");
+        println!(to; "refused {number}: {count}")
     }
-    print_number(count);
-    print(b"\n");
 }
 
 // How often each number was tried that the original gives, also one that never was.
-fn print_counts(tally: &[u64; NUMBERS]) {
-    let mut number: usize = 0;
-    while number < NUMBERS {
+fn print_counts(to: &impl Print, tally: &[u64; NUMBERS]) -> io::Result<()> {
+    for number in 0..NUMBERS {
         if is_given(number as u64) {
-            print_count(number as u64, tally[number]);
+            print_count(to, number as u64, tally[number])?;
         }
-        number += 1;
     }
+    Ok(())
 }
 
-pub fn print_summary(cases: u64, differences: u64, tally: &[u64; NUMBERS]) {
-    print_number(cases);
-    print(b" cases, ");
-    print_number(differences);
-    print(b" differences\n");
-    print_counts(tally);
+pub fn print_summary(
+    to: &impl Print,
+    cases: u64,
+    differences: u64,
+    tally: &[u64; NUMBERS],
+) -> io::Result<()> {
+    println!(to; "{cases} cases, {differences} differences")?;
+    print_counts(to, tally)
 }

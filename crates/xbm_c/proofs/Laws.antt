@@ -2,9 +2,6 @@
 use mathlib.Core.Path.{◌≡◌, refl, ap, ◌∙◌}
 use Prim.Native.Nat.{ℕ}
 use native.Mathlib.Omega.{arith}
-use mir.Syntax.{w32}
-use mir.Val.{SFits, to_z, of_z}
-use mir.ValLaws.{to_z-of_z}
 use mathlib.Core.Option.{Option}
 use mathlib.Core.List.{List, []}
 use lib.ListN.{length, take, length-take}
@@ -68,11 +65,9 @@ pub ruleset call_laws = (header-call, image-call)
 -- ---- writing
 
 module _ (name : List ℕ) (w h has : ℕ) (x y : ℤ) (cells out : List ℕ) {out' : List ℕ} (spot : Hotspot) (r : XbmWritten)
-    (a : SFits w32 x) (b : SFits w32 y) (g : hot_of spot ≡ hot_given has (to_z w32 (of_z w32 x)) (to_z w32 (of_z w32 y))) (e : told_writing r out' ≡ writing name w h (hot_of spot) cells out) where
+    (g : hot_of spot ≡ hot_given has x y) (e : told_writing r out' ≡ writing name w h (hot_of spot) cells out) where
   written : told_writing r out' ≡ writing_given name w h has x y cells out
-  written =
-      let s : hot_of spot ≡ hot_given has x y = rw (← to_z-of_z w32 x a, ← to_z-of_z w32 y b) g in
-      e ∙ ap (λ (o : Option (ℤ × ℤ)). writing name w h o cells out) s
+  written = e ∙ ap (λ (o : Option (ℤ × ℤ)). writing name w h o cells out) g
 
   call : WriteCall name w h has x y cells out out' (write_length (told_written r)) (write_number (told_written r))
   call = record {

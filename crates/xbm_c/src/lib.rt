@@ -1,5 +1,6 @@
 // The C calls (include/xbm.h): the answers of the proved readers and of the proved writer, as numbers.
 #![tactic(auto)]
+
 ghost use Rattle.std.specs.Prelude.{◌≡◌};
 ghost use Rattle.xbm_c.specs.Next.{result_at, decoder_at, report_at};
 ghost use Rattle.xbm_c.specs.Told.{HeaderCall, ImageCall};
@@ -55,7 +56,9 @@ pub extern "C" fn xbm_next_byte(
     decoder: &mut XbmStreamDecoder,
     report: &mut [u64; 10],
 ) -> u32
-    ensures { (result ≡ result_at text.now decoder.old) × (decoder.new ≡ decoder_at text.now decoder.old) × (report.new ≡ report_at text.now decoder.old) }
+    ensures number { result ≡ result_at text.now decoder.old }
+    ensures goes_on { decoder.new ≡ decoder_at text.now decoder.old }
+    ensures told { report.new ≡ report_at text.now decoder.old }
 {
     let answer = next_byte(text, decoder);
     tell(answer, *decoder, report)
