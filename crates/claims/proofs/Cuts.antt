@@ -9,16 +9,19 @@ use Rattle.std.proofs.Math.ListN.{get_elem?}
 use Rattle.std.proofs.Math.Seq.{length-take-le, take-length}
 use Rattle.text.specs.declared.TextLocation.{TextLocation}
 use Rattle.text.specs.Place.{byte_of, start, past}
-use Rattle.text.specs.Rest.{Walk, here, on, walk-unique}
-use Rattle.text.specs.Reader.{Result, stop, ◌>>◌, cut-firm, cut-stop}
+use Rattle.text.specs.Rest.{Walk, here, on}
+use Rattle.text.proofs.Rest.{walk-unique}
+use Rattle.text.specs.Reader.{Result, stop, ◌>>◌}
+use Rattle.text.proofs.Reader.{cut-firm, cut-stop}
 use Rattle.text.specs.Leaf.{give}
 use Rattle.text.specs.Outcome.{Outcome, accepted, refused, outcome}
 use Rattle.lexical.specs.Token.{overlay}
 use Rattle.symbol.specs.Symbol.{stored}
-use Rattle.header.specs.Header.{Head, header, header-local, header-firm}
+use Rattle.header.specs.Header.{Head, header}
+use Rattle.header.proofs.Header.{header-local, header-firm}
 use Rattle.body.specs.Data.{tail, Log}
 use Rattle.cells.specs.Cells.{painted}
-use Rattle.cells.specs.Kept.{at-past}
+use Rattle.cells.proofs.Kept.{at-past}
 use Rattle.image.specs.Reading.{name_in, reading}
 use Rattle.image.proofs.Whole.{same-reading}
 use Rattle.grammar.specs.Lang.{◌·◌}

@@ -7,9 +7,11 @@ use Rattle.std.proofs.Math.Nat.{mul-div_right}
 use borrow.Author.Tests.{le-ltb}
 use Rattle.text.specs.declared.TextLocation.{TextLocation}
 use Rattle.text.specs.Place.{byte_of, start, past}
-use Rattle.text.specs.Reader.{Result, ok, stop, bad, then, ◌>>=◌, cut-firm, cut-stop}
+use Rattle.text.specs.Reader.{Result, ok, stop, bad, then, ◌>>=◌}
+use Rattle.text.proofs.Reader.{cut-firm, cut-stop}
 use Rattle.text.specs.Outcome.{Outcome, accepted, refused, unplaced, outcome}
-use Rattle.header.specs.Header.{Head, header, header-local, header-firm}
+use Rattle.header.specs.Header.{Head, header}
+use Rattle.header.proofs.Header.{header-local, header-firm}
 use Rattle.image.specs.Reading.{Reading, reading, picture}
 use Rattle.ink.specs.Ink.{ink_of}
 use Rattle.image.specs.Limited.{cells_of, pictured, after_header, limited, within}

@@ -5,10 +5,13 @@ use Rattle.std.proofs.Math.Decide.{dec_le}
 use Rattle.std.proofs.lemmas.Bool.{lt-leb}
 use Rattle.text.specs.declared.TextLocation.{TextLocation}
 use Rattle.text.specs.Place.{pick, byte_of, start}
-use Rattle.text.specs.Reader.{Result, ok, stop, bad, end_byte, ahead, Settled, cut-firm, cut-stop, uncut}
+use Rattle.text.specs.Reader.{Result, ok, stop, bad, end_byte, Settled}
+use Rattle.text.proofs.Reader.{ahead, cut-firm, cut-stop, uncut}
 use Rattle.text.specs.Leaf.{give}
-use Rattle.header.specs.Header.{Head, header, header-local, header-firm}
-use Rattle.body.specs.Data.{item, items, Log, logged, log_of, item-local, item-firm, item-mild, items-local, bytes_of}
+use Rattle.header.specs.Header.{Head, header}
+use Rattle.header.proofs.Header.{header-local, header-firm}
+use Rattle.body.specs.Data.{item, items, Log, logged, log_of, bytes_of}
+use Rattle.body.proofs.Data.{item-local, item-firm, item-mild, items-local}
 use Rattle.grammar.proofs.Bind.{bind-case, bind_ok}
 
 -- what stands for an entry that is not there

@@ -8,7 +8,7 @@ use Rattle.std.proofs.lemmas.Bool.{eqb-false}
 use Rattle.text.specs.Place.{pick}
 use Rattle.body.specs.Data.{Log}
 use Rattle.cells.specs.Cells.{ink, byte_for, byte_at, inked, cell, cells_from, painted}
-use Rattle.cells.specs.Kept.{at-past}
+use Rattle.cells.proofs.Kept.{at-past}
 use Rattle.cells.proofs.Paint.{divmod}
 use Rattle.grammar.specs.Grammar.{Mask}
 use Rattle.claims.specs.Terms.{W, rows, bit, Rule}

@@ -3,10 +3,14 @@ use Rattle.std.specs.Prelude.{◌≡◌, refl, ℕ, suc, ◌≤◌, true, List, 
 use Rattle.std.proofs.Common.{sym, ap, ◌∙◌, arith, length-append}
 use Rattle.text.specs.declared.TextLocation.{TextLocation}
 use Rattle.text.specs.Place.{byte_of, start, past}
-use Rattle.text.specs.Reader.{ok, end_byte, ◌>>=◌, ◌>>◌, Local, Firm, ahead, bind-local, bind-firm}
-use Rattle.text.specs.Leaf.{give, give-local, give-firm}
-use Rattle.header.specs.Header.{Head, header, header-local, header-firm}
-use Rattle.body.specs.Data.{items, closing, tail, items-local, items-firm, closing-local, closing-firm, bytes_of}
+use Rattle.text.specs.Reader.{ok, end_byte, ◌>>=◌, ◌>>◌, Local, Firm}
+use Rattle.text.proofs.Reader.{ahead, bind-local, bind-firm}
+use Rattle.text.specs.Leaf.{give}
+use Rattle.text.proofs.Leaf.{give-local, give-firm}
+use Rattle.header.specs.Header.{Head, header}
+use Rattle.header.proofs.Header.{header-local, header-firm}
+use Rattle.body.specs.Data.{items, closing, tail, bytes_of}
+use Rattle.body.proofs.Data.{items-local, items-firm, closing-local, closing-firm}
 use Rattle.grammar.specs.Grammar.{Mask, Format}
 use Rattle.grammar.proofs.Bind.{bind-case, bind_ok, past-byte}
 use Rattle.grammar.proofs.Fits.{Any}

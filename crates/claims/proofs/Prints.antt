@@ -6,13 +6,18 @@ use native.Mathlib.Omega.{arith}
 use Rattle.std.proofs.Math.Option.{Option, none, some}
 use Rattle.text.specs.declared.TextLocation.{TextLocation}
 use Rattle.text.specs.Place.{pick, byte_of, start}
-use Rattle.text.specs.PlaceLaws.{start-sound}
-use Rattle.text.specs.Rest.{Reach, Sound, reach-inside, walk-sound}
-use Rattle.text.specs.Reader.{Result, ok, stop, bad, then, ◌>>=◌, Local, bind-local}
-use Rattle.text.specs.Leaf.{give, give-local}
+use Rattle.text.proofs.PlaceLaws.{start-sound}
+use Rattle.text.specs.Rest.{Reach, Sound}
+use Rattle.text.proofs.Rest.{reach-inside, walk-sound}
+use Rattle.text.specs.Reader.{Result, ok, stop, bad, then, ◌>>=◌, Local}
+use Rattle.text.proofs.Reader.{bind-local}
+use Rattle.text.specs.Leaf.{give}
+use Rattle.text.proofs.Leaf.{give-local}
 use Rattle.text.specs.Outcome.{Outcome, accepted, refused, unplaced, outcome}
-use Rattle.header.specs.Header.{Head, header, header-local}
-use Rattle.rows.specs.Rows.{whole, whole-local}
+use Rattle.header.specs.Header.{Head, header}
+use Rattle.header.proofs.Header.{header-local}
+use Rattle.rows.specs.Rows.{whole}
+use Rattle.rows.proofs.RowsLaws.{whole-local}
 use Rattle.image.specs.Reading.{picture, reading}
 use Rattle.ink.specs.Ink.{ink_of}
 use Rattle.image.specs.Limited.{cells_of, unpictured, pictured, after_header, limited, unread, within}

@@ -25,7 +25,7 @@ use Rattle.printing.specs.Printed.{hot_text}
 use Rattle.listing.specs.Listing.{listed_within, listed, listing}
 use Rattle.grammar.specs.Grammar.{Mask, Format}
 use Rattle.claims.specs.Terms.{Lines, Possible, Same}
-use Rattle.listing.specs.Sizes
+use Rattle.listing.proofs.Sizes
 use Rattle.claims.proofs.Listings
 use Rattle.claims.specs.Masks.{table, given, wanted}
 use Rattle.claims.proofs.Limits as Limit

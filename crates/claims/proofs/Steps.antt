@@ -8,12 +8,14 @@ use Rattle.std.proofs.Math.Bool.{true}
 use borrow.Author.Tests.{eq-eqb, ne_eqb, lt-ltb, le-ltb}
 use Rattle.text.specs.declared.TextLocation.{TextLocation}
 use Rattle.text.specs.Place.{byte_of, start, past}
-use Rattle.text.specs.PlaceLaws.{start-sound, foreign-not}
-use Rattle.text.specs.Rest.{Walk, Reach, reach-inside, walk-sound, Sound}
+use Rattle.text.proofs.PlaceLaws.{start-sound, foreign-not}
+use Rattle.text.specs.Rest.{Walk, Reach, Sound}
+use Rattle.text.proofs.Rest.{reach-inside, walk-sound}
 use Rattle.text.specs.Reader.{Result, ok, stop, bad, then, ◌>>=◌}
 use Rattle.text.specs.Leaf.{give}
 use Rattle.text.specs.Outcome.{outcome}
-use Rattle.body.specs.Data.{item, items, trailer, items-local}
+use Rattle.body.specs.Data.{item, items, trailer}
+use Rattle.body.proofs.Data.{items-local}
 use Rattle.decoder.specs.declared.XbmStreamDecoder.{XbmStreamDecoder}
 use Rattle.decoder.specs.Step.{foreign, called, placed_at, step_of}
 use Rattle.grammar.specs.Lang.{◌·◌}

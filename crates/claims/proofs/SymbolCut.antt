@@ -9,11 +9,14 @@ use Rattle.std.proofs.Math.Seq.{length-take-le, take-append-add, take-append_sea
 use Rattle.std.proofs.lemmas.List.{take-append-le}
 use Rattle.text.specs.declared.TextLocation.{TextLocation}
 use Rattle.text.specs.Place.{byte_of, rest, start, past}
-use Rattle.text.specs.Rest.{reach-inside}
-use Rattle.text.specs.Reader.{Result, ok, stop, bad, end_byte, ahead, Placed, cut-past, cut-end}
+use Rattle.text.proofs.Rest.{reach-inside}
+use Rattle.text.specs.Reader.{Result, ok, stop, bad, end_byte, Placed}
+use Rattle.text.proofs.Reader.{ahead, cut-past, cut-end}
 use Rattle.lexical.specs.Lexical.{is_loose}
-use Rattle.lexical.specs.Token.{token, token-local, span}
-use Rattle.symbol.specs.Symbol.{hash_define, opening, opening-local, opening-mild, stored_in, stored}
+use Rattle.lexical.specs.Token.{token, span}
+use Rattle.lexical.proofs.TokenLaws.{token-local}
+use Rattle.symbol.specs.Symbol.{hash_define, opening, stored_in, stored}
+use Rattle.symbol.proofs.SymbolLaws.{opening-local, opening-mild}
 use Rattle.grammar.specs.Lang.{Word, ◌·◌}
 use Rattle.grammar.specs.Grammar.{blank, solid, Side, Define, Symbol, Mask, Header}
 use Rattle.grammar.proofs.Bind.{past-byte, move}

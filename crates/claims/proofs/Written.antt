@@ -9,7 +9,8 @@ use Rattle.text.specs.Place.{pick}
 use Rattle.text.specs.Outcome.{Outcome, accepted, refused, unplaced}
 use Rattle.integer.specs.Decimal.{value_from}
 use Rattle.header.specs.Header.{Head}
-use Rattle.print.specs.Decimal.{digits, decimal, signed, digits_value}
+use Rattle.print.specs.Decimal.{digits, decimal, signed}
+use Rattle.print.proofs.Decimal.{digits_value}
 use Rattle.print.specs.Output.{joined}
 use Rattle.printing.specs.Printed.{hot_text, printed}
 use Rattle.grammar.specs.Lang.{Lang, Word, ◌·◌}

@@ -5,7 +5,7 @@ use Rattle.std.proofs.Math.Option.{none, some}
 use Rattle.std.proofs.lemmas.Bool.{false≢true, lt-leb}
 use Rattle.text.specs.declared.TextLocation.{TextLocation}
 use Rattle.text.specs.Ascii.{ascii}
-use Rattle.text.specs.Yields.{yields-bind, yields-give}
+use Rattle.text.proofs.Yields.{yields-bind, yields-give}
 use Rattle.text.specs.Reader.{ok, ◌>>=◌, ◌>>◌}
 use Rattle.text.specs.Place.{pick, start, rest, past}
 use Rattle.text.specs.Leaf.{give}

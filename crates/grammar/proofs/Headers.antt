@@ -8,7 +8,8 @@ use mathlib.Core.List.{List, [], ◌∷◌, ◌++◌, append_assoc}
 use Rattle.std.proofs.Math.IntN.{ℤ}
 use Rattle.text.specs.declared.TextLocation.{TextLocation}
 use Rattle.text.specs.Ascii.{ascii}
-use Rattle.text.specs.Yields.{Yields, yields-bind, yields-give}
+use Rattle.text.specs.Yields.{Yields}
+use Rattle.text.proofs.Yields.{yields-bind, yields-give}
 use Rattle.text.specs.Reader.{ok, Reader}
 use Rattle.lines.specs.Lines.{element, array_line, width_line}
 use Rattle.header.specs.Header.{Head, ending, hotspot, rest, header}

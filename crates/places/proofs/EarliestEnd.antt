@@ -9,12 +9,16 @@ use Rattle.std.proofs.Math.ListN.{length, take}
 use Rattle.std.proofs.Math.Seq.{length-take-le}
 use Rattle.text.specs.declared.TextLocation.{TextLocation}
 use Rattle.text.specs.Place.{byte_of, rest, start}
-use Rattle.text.specs.Rest.{Reach, walk-ahead, reach-inside, rest-room}
-use Rattle.text.specs.Reader.{ok, stop, ◌>>=◌, Same, same-take}
+use Rattle.text.specs.Rest.{Reach}
+use Rattle.text.proofs.Rest.{walk-ahead, reach-inside, rest-room}
+use Rattle.text.specs.Reader.{ok, stop, ◌>>=◌, Same}
+use Rattle.text.proofs.Reader.{same-take}
 use Rattle.text.specs.Leaf.{give}
 use Rattle.text.specs.Outcome.{refused}
-use Rattle.header.specs.Header.{Head, header, header-local}
-use Rattle.body.specs.Data.{items, closing, tail, trailer, items-local, closing-local, tail-local, bytes_of}
+use Rattle.header.specs.Header.{Head, header}
+use Rattle.header.proofs.Header.{header-local}
+use Rattle.body.specs.Data.{items, closing, tail, trailer, bytes_of}
+use Rattle.body.proofs.Data.{items-local, closing-local, tail-local}
 use Rattle.cells.specs.Cells.{count}
 use Rattle.rows.specs.Rows.{mismatch, ending}
 use Rattle.image.specs.Reading.{reading}

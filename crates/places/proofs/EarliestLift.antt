@@ -5,8 +5,8 @@ use Rattle.std.proofs.Common.{sym, ap, ◌∙◌, arith, le_of_suc-le-suc, not-s
 use mathlib.Core.List.{List, [], ◌∷◌, ◌++◌}
 use Rattle.text.specs.declared.TextLocation.{TextLocation}
 use Rattle.text.specs.Place.{byte_of, start}
-use Rattle.text.specs.PlaceLaws.{start-sound}
-use Rattle.text.specs.Rest.{reach-inside}
+use Rattle.text.proofs.PlaceLaws.{start-sound}
+use Rattle.text.proofs.Rest.{reach-inside}
 use Rattle.text.specs.Reader.{Result, ok, stop, bad, Reader, ◌>>=◌, Same}
 use Rattle.text.specs.Leaf.{give}
 use Rattle.text.specs.Outcome.{refused, outcome}

@@ -6,11 +6,12 @@ use mathlib.Core.List.{List, [], ◌∷◌, ◌++◌, append_assoc}
 use Rattle.std.proofs.Math.ListN.{length, take, drop, length-append}
 use Rattle.text.specs.declared.TextLocation.{TextLocation}
 use Rattle.text.specs.Place.{byte_of, rest, start, past}
-use Rattle.text.specs.Rest.{walk-ahead, reach-inside}
+use Rattle.text.proofs.Rest.{walk-ahead, reach-inside}
 use Rattle.text.specs.Reader.{Result, ok, stop, bad, then, Reader, ◌>>=◌, Same, Local}
 use Rattle.text.specs.Leaf.{give}
 use Rattle.lexical.specs.Lexical.{is_loose, line_end}
-use Rattle.lexical.specs.Token.{token, token-local}
+use Rattle.lexical.specs.Token.{token}
+use Rattle.lexical.proofs.TokenLaws.{token-local}
 use Rattle.symbol.specs.Symbol.{hash_define}
 use Rattle.grammar.specs.Lang.{Lang, Word, ◌·◌, All}
 use Rattle.grammar.specs.Grammar.{blank, solid, Define}

@@ -15,10 +15,12 @@ use Rattle.text.specs.Place.{byte_of, rest, start, past}
 use Rattle.text.specs.Reader.{Result, ok, stop, bad, then, Reader, ◌>>=◌, ◌>>◌, Same, Local}
 use Rattle.text.specs.Leaf.{give, want}
 use Rattle.text.specs.Outcome.{refused}
-use Rattle.lexical.specs.Lexical.{is_blank, is_loose, byte, skip, fixed, gap, leading, locals}
+use Rattle.lexical.specs.Lexical.{is_blank, is_loose, byte, skip, fixed, gap, leading}
+use Rattle.lexical.proofs.Lexical.{locals}
 use Rattle.lexical.specs.Token.{token}
-use Rattle.symbol.specs.Symbol.{hash_define, end_width, before, opening, opening-local}
-use Rattle.lines.specs.Lines.{line_laws}
+use Rattle.symbol.specs.Symbol.{hash_define, end_width, before, opening}
+use Rattle.symbol.proofs.SymbolLaws.{opening-local}
+use Rattle.lines.proofs.Lines.{line_laws}
 use Rattle.image.specs.Reading.{reading}
 use Rattle.grammar.specs.Lang.{Lang, Word, Lit, ◌·◌, All, Many, Some, Star}
 use Rattle.grammar.specs.Grammar.{blank, solid, Gap, Skipped, Define, Symbol}

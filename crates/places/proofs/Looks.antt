@@ -9,14 +9,19 @@ use Rattle.std.proofs.Math.ListN.{length}
 use Rattle.text.specs.declared.TextLocation.{TextLocation}
 use Rattle.text.specs.Ascii.{ascii}
 use Rattle.text.specs.Place.{pick, byte_of, rest, after, start, past}
-use Rattle.text.specs.Reader.{Reader, ◌>>=◌, Local, bind-local}
-use Rattle.text.specs.Leaf.{give, want, need, moved, scan, run, go_on, stay, halt, give-local, want-local, need-local, fork-local}
-use Rattle.lexical.specs.Lexical.{is_loose, fixed, gap, line_end, leading, fixed-local, gap-local, line_end-local, leading-local}
-use Rattle.lexical.specs.Token.{up_to, token, token-local}
+use Rattle.text.specs.Reader.{Reader, ◌>>=◌, Local}
+use Rattle.text.proofs.Reader.{bind-local}
+use Rattle.text.specs.Leaf.{give, want, need, moved, scan, run, go_on, stay, halt}
+use Rattle.text.proofs.Leaf.{give-local, want-local, need-local, fork-local}
+use Rattle.lexical.specs.Lexical.{is_loose, fixed, gap, line_end, leading}
+use Rattle.lexical.proofs.Lexical.{fixed-local, gap-local, line_end-local, leading-local}
+use Rattle.lexical.specs.Token.{up_to, token}
+use Rattle.lexical.proofs.TokenLaws.{token-local}
 use Rattle.symbol.specs.Symbol.{hash_define, end_width, before}
-use Rattle.lines.specs.Lines.{value, line, side, signed, unsigned, positive, width_line, array-local}
+use Rattle.lines.specs.Lines.{value, line, side, signed, unsigned, positive, width_line}
+use Rattle.lines.proofs.Lines.{array-local}
 use Rattle.header.specs.Header.{ending, hotspot, rest as headerRest, header}
-use Rattle.rows.specs.Rows.{whole-local}
+use Rattle.rows.proofs.RowsLaws.{whole-local}
 use Rattle.image.specs.Reading.{picture}
 use Rattle.grammar.specs.Lang.{Lang, Word, Lit, ◌·◌, All, Star}
 use Rattle.grammar.specs.Grammar.{blank, space, solid, Gap, Skipped, Define, Symbol, Side, Coordinate}

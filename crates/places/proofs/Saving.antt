@@ -6,10 +6,13 @@ use Rattle.std.proofs.Math.Decide.{dec_lt}
 use mathlib.Core.List.{List, [], ◌∷◌, ◌++◌, append-nil}
 use Rattle.text.specs.declared.TextLocation.{TextLocation}
 use Rattle.text.specs.Place.{byte_of, rest, after, past}
-use Rattle.text.specs.PlaceLaws.{sound-rest}
-use Rattle.text.specs.Rest.{Walk, here, on, Reach, walk-ahead, walk-unique, walk-sound, reach-inside, reach-trans, reach-same, rest-agree, after-rest, Sound}
-use Rattle.text.specs.Reader.{Result, ok, stop, bad, end_of, Reader, ◌>>=◌, Same, Local, bind-local}
-use Rattle.text.specs.Leaf.{Alike, heads, alike}
+use Rattle.text.proofs.PlaceLaws.{sound-rest}
+use Rattle.text.specs.Rest.{Walk, here, on, Reach, Sound}
+use Rattle.text.proofs.Rest.{walk-ahead, walk-unique, walk-sound, reach-inside, reach-trans, reach-same, rest-agree, after-rest}
+use Rattle.text.specs.Reader.{Result, ok, stop, bad, end_of, Reader, ◌>>=◌, Same, Local}
+use Rattle.text.proofs.Reader.{bind-local}
+use Rattle.text.specs.Leaf.{Alike, heads}
+use Rattle.text.proofs.Leaf.{alike}
 use Rattle.grammar.specs.Lang.{Lang}
 use Rattle.grammar.proofs.Bind.{past-byte, bind-case, bind_ok, bind-stop}
 use Rattle.grammar.proofs.Fits.{Follow, Fits}

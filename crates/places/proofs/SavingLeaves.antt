@@ -8,8 +8,10 @@ use Rattle.text.specs.declared.TextLocation.{TextLocation}
 use Rattle.text.specs.Place.{byte_of, rest, after}
 use Rattle.text.specs.Rest.{here}
 use Rattle.text.specs.Reader.{ok, stop, Reader, ◌>>◌, Same, Firm, Grows, Settled}
-use Rattle.text.specs.Leaf.{give, one, first, judge, eot, end_if, fork, fork_of, choose, Alike, heads, give-local, one_local, one_grows, eot-local, fork-local, fork-firm, fork-grows}
-use Rattle.lexical.specs.Lexical.{is, byte, skip, fixed, gap, line_end, is_blank, skip-local}
+use Rattle.text.specs.Leaf.{give, one, first, judge, eot, end_if, fork, fork_of, choose, Alike, heads}
+use Rattle.text.proofs.Leaf.{give-local, one_local, one_grows, eot-local, fork-local, fork-firm, fork-grows}
+use Rattle.lexical.specs.Lexical.{is, byte, skip, fixed, gap, line_end, is_blank}
+use Rattle.lexical.proofs.Lexical.{skip-local}
 use Rattle.grammar.specs.Lang.{Lang, Word, Many, All}
 use Rattle.grammar.specs.Grammar.{solid}
 use Rattle.grammar.proofs.Fits.{Follow, Any, End, Off, Next}

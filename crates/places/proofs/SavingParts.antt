@@ -5,11 +5,13 @@ use Rattle.text.specs.Ascii.{ascii}
 use Rattle.text.specs.Place.{byte_of}
 use Rattle.text.specs.Reader.{Reader, ◌>>=◌, ◌>>◌}
 use Rattle.text.specs.Leaf.{give, fork}
-use Rattle.lexical.specs.Lexical.{is, fixed, gap, line_end, is_blank, is_loose, firms}
+use Rattle.lexical.specs.Lexical.{is, fixed, gap, line_end, is_blank, is_loose}
+use Rattle.lexical.proofs.Lexical.{firms}
 use Rattle.lexical.specs.Token.{token}
 use Rattle.hexadecimal.specs.Hex.{hexv, hex_of, hex_digit, hex_start, hex_digits, hex_unit, is_mark}
 use Rattle.symbol.specs.Symbol.{hash_define}
-use Rattle.lines.specs.Lines.{element, array_line, line_laws}
+use Rattle.lines.specs.Lines.{element, array_line}
+use Rattle.lines.proofs.Lines.{line_laws}
 use Rattle.body.specs.Data.{item, items, brace, closing, tail}
 use Rattle.grammar.specs.Lang.{All}
 use Rattle.grammar.specs.Grammar.{solid}

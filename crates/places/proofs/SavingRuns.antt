@@ -8,13 +8,17 @@ use mathlib.Core.List.{List, [], ◌∷◌, ◌++◌, append_assoc, append-nil}
 use Rattle.std.proofs.Math.ListN.{length, length-append}
 use borrow.Author.Tests.{lt-ltb, le-ltb, not-true, ltb-true, ltb-false}
 use Rattle.text.specs.declared.TextLocation.{TextLocation}
-use Rattle.text.specs.PlaceLaws.{sound-rest}
+use Rattle.text.proofs.PlaceLaws.{sound-rest}
 use Rattle.text.specs.Place.{pick, byte_of, rest, after, past}
-use Rattle.text.specs.Rest.{Reach, reach-inside, rest-room}
-use Rattle.text.specs.Reader.{Result, ok, stop, bad, end_of, Same, Placed, same-take, cut-end}
+use Rattle.text.specs.Rest.{Reach}
+use Rattle.text.proofs.Rest.{reach-inside, rest-room}
+use Rattle.text.specs.Reader.{Result, ok, stop, bad, end_of, Same, Placed}
+use Rattle.text.proofs.Reader.{same-take, cut-end}
 use Rattle.text.specs.Leaf.{run, scan, moved, go_on, stay, halt}
-use Rattle.lexical.specs.Lexical.{is_loose, lead, leading, leading-local}
-use Rattle.lexical.specs.Token.{up_to, token, token-local, token-mild}
+use Rattle.lexical.specs.Lexical.{is_loose, lead, leading}
+use Rattle.lexical.proofs.Lexical.{leading-local}
+use Rattle.lexical.specs.Token.{up_to, token}
+use Rattle.lexical.proofs.TokenLaws.{token-local, token-mild}
 use Rattle.grammar.specs.Lang.{Word, All, Star, stop as None-more}
 use Rattle.grammar.specs.Grammar.{space, solid, Skipped}
 use Rattle.grammar.proofs.Bind.{past-byte, move}

@@ -4,15 +4,22 @@ use Rattle.std.proofs.Common.{ap, ◌∙◌, arith}
 use Rattle.std.proofs.Math.Option.{Option, none, some}
 use Rattle.text.specs.declared.TextLocation.{TextLocation}
 use Rattle.text.specs.Place.{pick, byte_of, rest, after}
-use Rattle.text.specs.Rest.{after-rest, rest-agree}
-use Rattle.text.specs.Reader.{Result, ok, stop, bad, end_of, Reader, then, ◌>>=◌, Local, Same, ahead, bind-local}
-use Rattle.text.specs.Leaf.{give, need, one, first, judge, go_on, stay, moved, scan, run, fork, fork_of, choose, eot, end_if, Alike, heads, alike, give-local}
-use Rattle.lexical.specs.Lexical.{is, while, lead, byte, skip, fixed, gap, line_end, leading, locals, byte-local, fixed-local}
-use Rattle.hexadecimal.specs.Hex.{hexv, hex_digit, hex_start, hex_digits, hex_unit, hex_unit-local, hex_digits-local, hex_digit-local}
-use Rattle.lines.specs.Lines.{element, array_line, line_laws}
-use Rattle.body.specs.Data.{item, items, brace, closing, tail, trailer, item-local, items-local, closing-local, trailer-local, brace-local}
+use Rattle.text.proofs.Rest.{after-rest, rest-agree}
+use Rattle.text.specs.Reader.{Result, ok, stop, bad, end_of, Reader, then, ◌>>=◌, Local, Same}
+use Rattle.text.proofs.Reader.{ahead, bind-local}
+use Rattle.text.specs.Leaf.{give, need, one, first, judge, go_on, stay, moved, scan, run, fork, fork_of, choose, eot, end_if, Alike, heads}
+use Rattle.text.proofs.Leaf.{alike, give-local}
+use Rattle.lexical.specs.Lexical.{is, while, lead, byte, skip, fixed, gap, line_end, leading}
+use Rattle.lexical.proofs.Lexical.{locals, byte-local, fixed-local}
+use Rattle.hexadecimal.specs.Hex.{hexv, hex_digit, hex_start, hex_digits, hex_unit}
+use Rattle.hexadecimal.proofs.HexLaws.{hex_unit-local, hex_digits-local, hex_digit-local}
+use Rattle.lines.specs.Lines.{element, array_line}
+use Rattle.lines.proofs.Lines.{line_laws}
+use Rattle.body.specs.Data.{item, items, brace, closing, tail, trailer}
+use Rattle.body.proofs.Data.{item-local, items-local, closing-local, trailer-local, brace-local}
 use Rattle.cells.specs.Cells.{count}
-use Rattle.rows.specs.Rows.{ending, whole, ending-local}
+use Rattle.rows.specs.Rows.{ending, whole}
+use Rattle.rows.proofs.RowsLaws.{ending-local}
 
 -- what is known where a reader, started at a place of a text, looked ahead: its number, and the place that it tells
 abbrev pub Looks : Type 1

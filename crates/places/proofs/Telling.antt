@@ -4,9 +4,11 @@ use Rattle.std.proofs.Common.{sym, ap, ◌∙◌, inl, inr, arith, le_of_suc-le-
 use Rattle.std.proofs.Math.ListN.{get_elem?}
 use Rattle.text.specs.declared.TextLocation.{TextLocation}
 use Rattle.text.specs.Place.{byte_of, rest, start, past}
-use Rattle.text.specs.PlaceLaws.{sound-rest, start-sound}
-use Rattle.text.specs.Rest.{Reach, reach-inside, walk-unique, walk-sound}
-use Rattle.text.specs.Reader.{Result, ok, stop, bad, end_of, Same, cut-end}
+use Rattle.text.proofs.PlaceLaws.{sound-rest, start-sound}
+use Rattle.text.specs.Rest.{Reach}
+use Rattle.text.proofs.Rest.{reach-inside, walk-unique, walk-sound}
+use Rattle.text.specs.Reader.{Result, ok, stop, bad, end_of, Same}
+use Rattle.text.proofs.Reader.{cut-end}
 use Rattle.text.specs.Outcome.{Outcome, refused, outcome}
 use Rattle.header.specs.Header.{Head}
 use Rattle.image.specs.Reading.{picture, reading}

@@ -8,11 +8,13 @@ use Rattle.std.proofs.lemmas.Bool.{false≢true}
 use mathlib.Core.List.{List, [], ◌++◌, append-nil}
 use Rattle.text.specs.declared.TextLocation.{TextLocation}
 use Rattle.text.specs.Place.{byte_of, rest, past}
-use Rattle.text.specs.PlaceLaws.{sound-rest}
-use Rattle.text.specs.Rest.{Reach, reach-inside, walk-ahead, walk-unique}
+use Rattle.text.proofs.PlaceLaws.{sound-rest}
+use Rattle.text.specs.Rest.{Reach}
+use Rattle.text.proofs.Rest.{reach-inside, walk-ahead, walk-unique}
 use Rattle.text.specs.Reader.{Result, ok, stop, bad, Reader}
 use Rattle.text.specs.Outcome.{Outcome, accepted, refused, outcome}
-use Rattle.body.specs.Data.{item, trailer, closing, tail, item-local, trailer-local}
+use Rattle.body.specs.Data.{item, trailer, closing, tail}
+use Rattle.body.proofs.Data.{item-local, trailer-local}
 use Rattle.decoder.specs.declared.XbmStreamDecoder.{XbmStreamDecoder}
 use Rattle.decoder.specs.Step.{foreign, step_of}
 use Rattle.grammar.specs.Lang.{Lang, ◌·◌}

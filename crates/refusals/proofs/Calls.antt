@@ -8,12 +8,16 @@ use Rattle.std.proofs.lemmas.Bool.{false≢true}
 use borrow.Author.Tests.{eqb-true, eqb-false, ltb-true, ltb-false, lt-ltb, le-ltb}
 use Rattle.text.specs.declared.TextLocation.{TextLocation}
 use Rattle.text.specs.Place.{pick, rest}
-use Rattle.text.specs.Rest.{Reach, reach-inside, walk-sound}
-use Rattle.text.specs.Reader.{Result, ok, stop, bad, end_of, then, ◌>>=◌, ◌>>◌, Local, bind-local}
-use Rattle.text.specs.Leaf.{give, run, fork, eot, end_if, give-local}
+use Rattle.text.specs.Rest.{Reach}
+use Rattle.text.proofs.Rest.{reach-inside, walk-sound}
+use Rattle.text.specs.Reader.{Result, ok, stop, bad, end_of, then, ◌>>=◌, ◌>>◌, Local}
+use Rattle.text.proofs.Reader.{bind-local}
+use Rattle.text.specs.Leaf.{give, run, fork, eot, end_if}
+use Rattle.text.proofs.Leaf.{give-local}
 use Rattle.text.specs.Outcome.{Outcome, accepted, refused, unplaced, outcome}
 use Rattle.lexical.specs.Lexical.{is_loose, skip}
-use Rattle.body.specs.Data.{item, trailer, closing, brace, tail, item-local, trailer-local, bytes_of}
+use Rattle.body.specs.Data.{item, trailer, closing, brace, tail, bytes_of}
+use Rattle.body.proofs.Data.{item-local, trailer-local}
 use Rattle.decoder.specs.declared.XbmStreamDecoder.{XbmStreamDecoder}
 use Rattle.decoder.specs.Step.{foreign, more, called, spent, placed_at, step_of}
 use Rattle.grammar.proofs.Bind.{bind-case, bind_ok, bind-stop}

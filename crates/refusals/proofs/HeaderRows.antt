@@ -10,12 +10,14 @@ use Rattle.text.specs.Place.{start}
 use Rattle.text.specs.Reader.{Result, ok, stop, bad, then, Reader, ◌>>=◌, ◌>>◌, Mild}
 use Rattle.text.specs.Leaf.{give, need}
 use Rattle.text.specs.Outcome.{Outcome, refused, unplaced, outcome}
-use Rattle.lexical.specs.Lexical.{locals, milds, leading}
+use Rattle.lexical.specs.Lexical.{leading}
+use Rattle.lexical.proofs.Lexical.{locals, milds}
 use Rattle.integer.specs.declared.Fault.{Fault}
 use Rattle.integer.specs.declared.Fault.TheVariants.{Empty, LeadingZero, NotDigit, OutOfRange}
 use Rattle.integer.specs.declared.Unsigned.TheVariants.{Bad}
 use Rattle.integer.specs.Decimal.{parse_u32, fault_number, unsigned_fault}
-use Rattle.lines.specs.Lines.{line_laws, element-local, element-mild, unsigned, signed, side, positive, width_line, array_line}
+use Rattle.lines.specs.Lines.{unsigned, signed, side, positive, width_line, array_line}
+use Rattle.lines.proofs.Lines.{line_laws, element-local, element-mild}
 use Rattle.header.specs.Header.{Head, rest, header}
 use Rattle.rows.specs.Rows.{whole}
 use Rattle.image.specs.Reading.{picture, reading}

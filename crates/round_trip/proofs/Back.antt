@@ -13,7 +13,7 @@ use Rattle.header.specs.Header.{Head}
 use Rattle.body.specs.Data.{row_bytes, bytes_of}
 use Rattle.image.specs.Reading.{reading}
 use Rattle.data_text.specs.Packed.{bit_at, packed_at}
-use Rattle.data_text.specs.Bits.{packed-at, packed-bit}
+use Rattle.data_text.proofs.Bits.{packed-at, packed-bit}
 use Rattle.writer.specs.Written.{written}
 use Rattle.writer.specs.Writing.{writing}
 use Rattle.grammar.specs.Lang.{◌·◌, All}

@@ -11,8 +11,8 @@ use Rattle.print.specs.Decimal.{decimal, signed}
 use Rattle.body.specs.Data.{row_bytes, bytes_of}
 use Rattle.data_text.specs.Packed.{first_cell, cells_in, packed_at, packed}
 use Rattle.data_text.specs.DataText.{lead_text, hex_text, byte_text, data_text}
-use Rattle.data_text.specs.Bits.{bits_small, packed-at}
-use Rattle.data_text.specs.Size.{packed-length}
+use Rattle.data_text.proofs.Bits.{bits_small, packed-at}
+use Rattle.data_text.proofs.Size.{packed-length}
 use Rattle.header_text.specs.HeaderText.{define_text, spot_text, head_text}
 use Rattle.writer.specs.Written.{written}
 use Rattle.grammar.specs.Lang.{Lang, Word, Lit, ◌·◌}

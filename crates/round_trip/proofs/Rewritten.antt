@@ -13,12 +13,13 @@ use Rattle.rows.specs.Rows.{whole}
 use Rattle.image.specs.Reading.{Reading, picture, reading}
 use Rattle.image.specs.Limited.{cells_of, unpictured, pictured, after_header, limited, unread, within}
 use Rattle.ink.specs.Ink.{ink_of}
-use Rattle.print.specs.Output.{Output, output, puts-start}
+use Rattle.print.specs.Output.{Output, output}
+use Rattle.print.proofs.Output.{puts-start}
 use Rattle.printing.specs.Printed.{printed}
 use Rattle.listing.specs.Listing.{Listed, listed_of, listed_within, listed, ink_in, listing}
-use Rattle.listing.specs.Sizes.{printed-short}
+use Rattle.listing.proofs.Sizes.{printed-short}
 use Rattle.writer.specs.Writing.{writing}
-use Rattle.writer.specs.Size.{written-short}
+use Rattle.writer.proofs.Size.{written-short}
 use Rattle.program.specs.Program.{Holds}
 use Rattle.rewriting.specs.Program.{RewritesInput}
 use Rattle.rewriting.specs.Rewriting.{writing_in, rewrite_of, rewriting}

@@ -8,8 +8,8 @@ use Rattle.std.proofs.Math.ListN.{get_elem?}
 use Rattle.body.specs.Data.{bytes_of}
 use Rattle.image.specs.Reading.{reading}
 use Rattle.data_text.specs.Packed.{bit_at, packed_at, packed}
-use Rattle.data_text.specs.Size.{packed-length}
-use Rattle.data_text.specs.Bits.{byte_small, packed-at, packed-bit}
+use Rattle.data_text.proofs.Size.{packed-length}
+use Rattle.data_text.proofs.Bits.{byte_small, packed-at, packed-bit}
 use Rattle.writer.specs.Written.{written}
 use Rattle.grammar.specs.Lang.{◌·◌}
 use Rattle.grammar.specs.Grammar.{Mask, Hex, Byte, Further, Data, Format}

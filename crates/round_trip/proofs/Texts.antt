@@ -10,7 +10,7 @@ use Rattle.print.specs.Output.{joined}
 use Rattle.print.specs.Decimal.{decimal, signed}
 use Rattle.data_text.specs.Packed.{packed}
 use Rattle.data_text.specs.DataText.{lead_text, hex_text, byte_text, data_text}
-use Rattle.data_text.specs.Size.{packed-length}
+use Rattle.data_text.proofs.Size.{packed-length}
 use Rattle.header_text.specs.HeaderText.{define_text, spot_text, array_text, head_text}
 use Rattle.writer.specs.Written.{written}
 use Rattle.grammar.specs.Lang.{Lang, Word, ◌·◌, ◌∣◌, All, Many, Some, stop}

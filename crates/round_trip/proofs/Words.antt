@@ -4,7 +4,7 @@ use Rattle.std.proofs.Common.{arith}
 use Rattle.std.proofs.Math.Option.{some}
 use Rattle.std.proofs.Math.ListN.{get_elem?}
 use Rattle.data_text.specs.Packed.{packed_from}
-use Rattle.data_text.specs.Bits.{byte_small}
+use Rattle.data_text.proofs.Bits.{byte_small}
 use Rattle.grammar.specs.Lang.{Lang, Word, ◌·◌}
 
 -- a word of the one and then a word of the other

@@ -2,7 +2,6 @@
 pub mod Told
 pub mod Next
 pub mod Write
-pub mod Examples
 pub mod Calls
 pub mod Room
 pub mod WriteExamples

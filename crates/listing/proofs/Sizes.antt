@@ -6,9 +6,11 @@ use Rattle.text.specs.Ascii.{ascii}
 use Rattle.text.specs.declared.TextLocation.{TextLocation}
 use Rattle.text.specs.Outcome.{Outcome, accepted, refused, unplaced}
 use Rattle.header.specs.Header.{Head}
-use Rattle.image.specs.Limited.{unread, limited, within-long, within-short, within-beginning}
-use Rattle.print.specs.Output.{length-joined-two, length-joined-three, length-joined-four}
-use Rattle.print.specs.Decimal.{decimal, signed, digits-short, signed-short}
+use Rattle.image.specs.Limited.{unread, limited}
+use Rattle.image.proofs.Limited.{within-long, within-short, within-beginning}
+use Rattle.print.proofs.Output.{length-joined-two, length-joined-three, length-joined-four}
+use Rattle.print.specs.Decimal.{decimal, signed}
+use Rattle.print.proofs.Decimal.{digits-short, signed-short}
 use Rattle.printing.specs.Printed.{field_text, hot_text, sides_text, hotspot_text, ink_text, accepted_text, place_text, printed}
 use Rattle.listing.specs.Listing.{text_limit, cell_limit, listed_of, listed_within, listed, listing}
 

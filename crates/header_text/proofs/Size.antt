@@ -4,7 +4,8 @@ use Rattle.std.proofs.Common.{arith, length-append}
 use Rattle.std.proofs.Math.Option.{Option, none, some}
 use Rattle.text.specs.Ascii.{ascii}
 use Rattle.print.specs.Output.{joined}
-use Rattle.print.specs.Decimal.{decimal, signed, digits-short, signed-short}
+use Rattle.print.specs.Decimal.{decimal, signed}
+use Rattle.print.proofs.Decimal.{digits-short, signed-short}
 use Rattle.header_text.specs.HeaderText.{start_text, define_text, spot_text, array_text, head_text}
 
 field-short : (name ending n : List ℕ) → length name ≤ 250 → length ending ≤ 7 → length n ≤ 21 → length (define_text name ending n) ≤ 288

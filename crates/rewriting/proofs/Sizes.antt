@@ -8,7 +8,8 @@ use Rattle.text.specs.Outcome.{Outcome, accepted, refused, unplaced}
 use Rattle.lexical.specs.Token.{overlay}
 use Rattle.header.specs.Header.{Head}
 use Rattle.image.specs.Reading.{Reading}
-use Rattle.image.specs.Limited.{within, within-beginning}
+use Rattle.image.specs.Limited.{within}
+use Rattle.image.proofs.Limited.{within-beginning}
 use Rattle.print.specs.Output.{Output, output, put, puts}
 use Rattle.writer.specs.Written.{written}
 use Rattle.writer.specs.Writing.{wrong, stored, refusal, writing}

@@ -6,12 +6,12 @@ use Rattle.text.specs.Ascii.{ascii}
 use Rattle.text.specs.Place.{pick}
 use Rattle.body.specs.Data.{bytes_of}
 use Rattle.mask.specs.Fault.{fault}
-use Rattle.print.specs.Output.{length-joined-three}
+use Rattle.print.proofs.Output.{length-joined-three}
 use Rattle.data_text.specs.Packed.{packed}
 use Rattle.data_text.specs.DataText.{data_text, data_length}
-use Rattle.data_text.specs.Size.{packed-text-length}
+use Rattle.data_text.proofs.Size.{packed-text-length}
 use Rattle.header_text.specs.HeaderText.{head_text}
-use Rattle.header_text.specs.Size.{head-short}
+use Rattle.header_text.proofs.Size.{head-short}
 use Rattle.writer.specs.Written.{written}
 use Rattle.writer.specs.Writing.{unbroken, name_limit, wrong}
 

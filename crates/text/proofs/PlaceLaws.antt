@@ -6,7 +6,8 @@ use Rattle.std.proofs.Math.Path.{refl}
 use borrow.Author.Tests.{le-leb, lt-leb, leb-true, leb-false, lt-ltb, le-ltb, ltb-true, ltb-false, eq-eqb, ne_eqb, eqb-true}
 use Rattle.text.specs.declared.TextLocation.{TextLocation}
 use Rattle.text.specs.Place.{pick, byte_of, place_of, start, nowhere, after, is_foreign, has_left, along_line, past_line, past_byte, rest, past}
-use Rattle.text.specs.Rest.{nil-cons, Walk, here, on, Reach, reach-inside, walk-sound, Sound, newlines}
+use Rattle.text.specs.Rest.{Walk, here, on, Reach, Sound, newlines}
+use Rattle.text.proofs.Rest.{nil-cons, reach-inside, walk-sound}
 
 pub pick_same {ℓ} : {A : Type ℓ} (t : Bool) (a : A) → pick t a a ≡ a
 pick_same true a = refl

@@ -1,0 +1,31 @@
+-- The header, as one reading after another, with its laws.
+use Rattle.std.specs.Prelude.{ℕ, true, List, ℤ}
+use Rattle.std.proofs.Math.Option.{Option, none, some}
+use Rattle.text.specs.Ascii.{ascii}
+use Rattle.text.specs.Reader.{Reader, ◌>>=◌, ◌>>◌, Local, Firm}
+use Rattle.text.specs.Leaf.{give, fork}
+use Rattle.lexical.specs.Lexical.{leading}
+use Rattle.lexical.proofs.Lexical.{locals, firms}
+use Rattle.lines.specs.Lines.{signed, side, line, width_line, array_line}
+use Rattle.lines.proofs.Lines.{line_laws, array_laws, width-local, width-firm, width-grows}
+use Rattle.header.specs.Header.{rest, header}
+
+-- ---- laws
+
+module _ (name : List ℕ) (w h : ℕ) where
+  pub rest-local : Local (rest name w h)
+  unfolding rest
+  rest-local = search (locals, line_laws, array_laws) depth 40 fits 10000
+
+  pub rest-firm : Firm (rest name w h)
+  unfolding rest
+  rest-firm = search (firms, line_laws, array_laws) depth 50 fits 20000
+
+module _ (limit : ℕ) where
+  pub header-local : Local (header limit)
+  unfolding header
+  header-local = search (locals, line_laws, width-local, rest-local) depth 40 fits 10000
+
+  pub header-firm : Firm (header limit)
+  unfolding header
+  header-firm = search (firms, line_laws, width-local, width-firm, width-grows, rest-local, rest-firm) depth 50 fits 20000
