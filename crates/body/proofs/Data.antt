@@ -1,14 +1,9 @@
--- The data bytes and the trailer, with their laws.
-use Rattle.std.specs.Prelude.{ℕ, zero, suc, ◌+◌, ◌*◌, ◌/◌, List, [], ◌∷◌, Bool, true, false}
-use Rattle.text.specs.Ascii.{ascii}
-use Rattle.text.specs.declared.TextLocation.{TextLocation}
-use Rattle.text.specs.Reader.{Result, ok, stop, bad, Reader, ◌>>=◌, ◌>>◌, Local, Firm, Mild, Grows}
+-- The theorems about what specs/Data.antt defines.
+use Rattle.std.specs.Prelude.{ℕ, zero, suc, [], ◌∷◌, Bool, true, false}
+use Rattle.text.specs.Reader.{Local, Firm, Mild, Grows}
 use Rattle.text.proofs.Reader.{bind-local, bind-firm}
-use Rattle.text.specs.Leaf.{give, fork, eot}
 use Rattle.text.proofs.Leaf.{give-local, give-firm}
-use Rattle.lexical.specs.Lexical.{is_loose, skip, byte, is, fixed}
 use Rattle.lexical.proofs.Lexical.{locals, milds, firms}
-use Rattle.hexadecimal.specs.Hex.{hex_byte}
 use Rattle.hexadecimal.proofs.HexLaws.{hex_unit-local, hex_unit-mild, hex_unit-firm, hex_unit-grows}
 use Rattle.body.specs.Data.{item, items, brace, closing, tail, trailer}
 

@@ -2,7 +2,7 @@
 use Rattle.std.specs.Prelude.{ℕ, zero, suc, ◌+◌, ◌*◌, ◌/◌, List, [], ◌∷◌, Bool, true, false}
 use Rattle.text.specs.Ascii.{ascii}
 use Rattle.text.specs.declared.TextLocation.{TextLocation}
-use Rattle.text.specs.Reader.{Result, ok, stop, bad, Reader, ◌>>=◌, ◌>>◌, Local, Firm, Mild, Grows}
+use Rattle.text.specs.Reader.{Result, ok, stop, bad, Reader, ◌>>=◌, ◌>>◌}
 use Rattle.text.specs.Leaf.{give, fork, eot}
 use Rattle.lexical.specs.Lexical.{is_loose, skip, byte, is, fixed}
 use Rattle.hexadecimal.specs.Hex.{hex_byte}

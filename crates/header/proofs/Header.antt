@@ -1,12 +1,7 @@
--- The header, as one reading after another, with its laws.
-use Rattle.std.specs.Prelude.{ℕ, true, List, ℤ}
-use Rattle.std.proofs.Math.Option.{Option, none, some}
-use Rattle.text.specs.Ascii.{ascii}
-use Rattle.text.specs.Reader.{Reader, ◌>>=◌, ◌>>◌, Local, Firm}
-use Rattle.text.specs.Leaf.{give, fork}
-use Rattle.lexical.specs.Lexical.{leading}
+-- The theorems about what specs/Header.antt defines.
+use Rattle.std.specs.Prelude.{ℕ, List}
+use Rattle.text.specs.Reader.{Local, Firm}
 use Rattle.lexical.proofs.Lexical.{locals, firms}
-use Rattle.lines.specs.Lines.{signed, side, line, width_line, array_line}
 use Rattle.lines.proofs.Lines.{line_laws, array_laws, width-local, width-firm, width-grows}
 use Rattle.header.specs.Header.{rest, header}
 

@@ -1,13 +1,8 @@
--- Hexadecimal units: `0x` or `0X` and a number of digits, with their laws.
+-- The theorems about what specs/Hex.antt defines.
 use Prim.Native.Nat.{ℕ, zero, suc, ◌+◌, ◌-◌, ◌*◌}
-use Rattle.std.proofs.Math.Option.{Option, none, some}
-use Rattle.std.specs.Prelude.{List, [], ◌∷◌, Bool, true, false, leb, ltb, eqb}
-use Rattle.text.specs.Place.{pick}
-use Rattle.text.specs.Reader.{Reader, ◌>>=◌, ◌>>◌, Local, Firm, Mild, Grows}
+use Rattle.text.specs.Reader.{Local, Firm, Mild, Grows}
 use Rattle.text.proofs.Reader.{bind-local, bind-firm, bind-mild}
-use Rattle.text.specs.Leaf.{give, one}
 use Rattle.text.proofs.Leaf.{give-local, give-firm, give-mild, one_local, one-firm, one-mild, one_grows}
-use Rattle.lexical.specs.Lexical.{byte, fixed}
 use Rattle.lexical.proofs.Lexical.{locals, milds, firms}
 use Rattle.hexadecimal.specs.Hex.{hexv, hex_digit, hex_start, hex_digits, hex_unit}
 

@@ -1,28 +1,8 @@
--- The reading of pixels within limits on the text's bytes and on the cells: the first limit, the header, the second,
--- then the picture, into the first width times height cells lent.
-use Rattle.std.specs.Prelude.{◌≡◌, ℕ, ◌*◌, ◌≤◌, ◌<◌, true, List, [], ◌++◌, length, take, drop, ltb}
+-- The theorems about what specs/Limited.antt defines.
+use Rattle.std.specs.Prelude.{◌≡◌, ℕ, ◌≤◌, ◌<◌, List, length, take}
 use Rattle.std.proofs.Common.{sym, ap, ◌∙◌, arith, length-take, take_all, lt-ltb, le-ltb}
 use Rattle.std.proofs.Math.Decide.{dec_lt}
-use Rattle.text.specs.declared.TextLocation.{TextLocation}
-use Rattle.text.specs.Place.{pick, start}
-use Rattle.text.specs.Reader.{Result, ok, stop, bad}
-use Rattle.text.specs.Outcome.{Outcome, accepted, refused, unplaced, outcome}
-use Rattle.lexical.specs.Token.{overlay}
-use Rattle.error.specs.Error.{refusal_of, told_refusal}
-use Rattle.error.specs.declared.Refusal.TheVariants.{Unplaced}
-use Rattle.symbol.specs.Symbol.{stored}
-use Rattle.header.specs.declared.XbmHeaderData.{XbmHeaderData}
-use Rattle.header.specs.Header.{Head, header}
-use Rattle.header.specs.Answer.{head_of}
-use Rattle.body.specs.Data.{log_of}
-use Rattle.cells.specs.Cells.{painted, count}
-use Rattle.rows.specs.Rows.{whole}
-use Rattle.image.specs.Reading.{Reading, reading}
-use Rattle.image.specs.declared.ImageRead.{ImageRead}
-use Rattle.image.specs.declared.ImageRead.TheVariants.{Read as ImageIs, Refused as ImageRefused, DimensionMismatch}
-use Rattle.image.specs.declared.LimitedRead.{LimitedRead}
-use Rattle.image.specs.declared.LimitedRead.TheVariants.{Read, Refused}
-use Rattle.image.specs.declared.LimitedAnswer.{LimitedAnswer}
+use Rattle.text.specs.Outcome.{unplaced}
 use Rattle.image.specs.Limited.{limited, unread, within}
 
 -- ---- laws

@@ -1,8 +1,6 @@
 -- The reading of pixels within limits on the text's bytes and on the cells: the first limit, the header, the second,
 -- then the picture, into the first width times height cells lent.
 use Rattle.std.specs.Prelude.{◌≡◌, ℕ, ◌*◌, ◌≤◌, ◌<◌, true, List, [], ◌++◌, length, take, drop, ltb}
-use Rattle.std.proofs.Common.{sym, ap, ◌∙◌, arith, length-take, take_all, lt-ltb, le-ltb}
-use Rattle.std.proofs.Math.Decide.{dec_lt}
 use Rattle.text.specs.declared.TextLocation.{TextLocation}
 use Rattle.text.specs.Place.{pick, start}
 use Rattle.text.specs.Reader.{Result, ok, stop, bad}

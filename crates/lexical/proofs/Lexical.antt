@@ -1,17 +1,9 @@
--- The lexical rules: readers put together from the leaves, each with its laws.
-use Rattle.std.specs.Prelude.{ℕ, List, [], ◌∷◌, Bool, true, false, eqb}
-use Rattle.std.proofs.Math.Option.{Option, none, some}
-use Rattle.text.specs.Place.{pick}
-use Rattle.text.specs.Reader.{Result, ok, stop, then, Reader, ◌>>=◌, ◌>>◌, Local, Firm, Mild, Grows}
+-- The theorems about what specs/Lexical.antt defines.
+use Rattle.std.specs.Prelude.{ℕ, List, [], ◌∷◌, Bool}
+use Rattle.std.proofs.Math.Option.{none, some}
+use Rattle.text.specs.Reader.{Local, Firm, Mild, Grows}
 use Rattle.text.proofs.Reader.{bind-local, bind-firm, bind-mild, grow-firm, grow-grows, bind-grows-left}
-use Rattle.text.specs.Leaf.{give, one, run, Move, go_on, stay}
 use Rattle.text.proofs.Leaf.{give-local, give-firm, give-mild, want-local, want-firm, want-mild, need-local, need-firm, one_local, one-firm, one_grows, one-mild, run-local, run-mild, fork-local, fork-firm, fork-mild, fork-grows, eot-local}
-use Rattle.lexical.specs.declared.XbmPart.{XbmPart}
-use Rattle.lexical.specs.declared.XbmPart.TheVariants.{Width, Height, HotspotX, HotspotY, Array, Data, ArrayEnd, Trailing}
-use Rattle.lexical.specs.declared.Passed.{Passed}
-use Rattle.lexical.specs.declared.Passed.TheVariants.{To, Refused}
-use Rattle.lexical.specs.declared.ByteRead.{ByteRead}
-use Rattle.lexical.specs.declared.ByteRead.TheVariants.{Got, Refused as NotGot}
 use Rattle.lexical.specs.Lexical.{when, any_byte, byte, is, while, skip, fixed, gap, line_end, lead, leading}
 
 -- ---- laws

@@ -2,7 +2,7 @@
 use Rattle.std.specs.Prelude.{ℕ, List, [], ◌∷◌, Bool, true, false, eqb}
 use Rattle.std.proofs.Math.Option.{Option, none, some}
 use Rattle.text.specs.Place.{pick}
-use Rattle.text.specs.Reader.{Result, ok, stop, then, Reader, ◌>>=◌, ◌>>◌, Local, Firm, Mild, Grows}
+use Rattle.text.specs.Reader.{Result, ok, stop, then, Reader, ◌>>◌}
 use Rattle.text.specs.Leaf.{give, one, run, Move, go_on, stay}
 use Rattle.lexical.specs.declared.XbmPart.{XbmPart}
 use Rattle.lexical.specs.declared.XbmPart.TheVariants.{Width, Height, HotspotX, HotspotY, Array, Data, ArrayEnd, Trailing}

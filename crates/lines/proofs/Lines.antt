@@ -1,18 +1,8 @@
--- The lines of a header: an integer's, one whose symbol is known, the width line, the line that opens the array; with their laws.
-use Rattle.std.specs.Prelude.{ℕ, ◌+◌, ◌≤◌, ◌≡◌, List, length, eqb, ℤ}
-use Rattle.std.proofs.Math.Option.{Option, none, some}
-use Rattle.text.specs.declared.TextLocation.{TextLocation}
-use Rattle.text.specs.Ascii.{ascii}
-use Rattle.text.specs.Place.{pick}
-use Rattle.text.specs.Reader.{Reader, ◌>>=◌, ◌>>◌, Local, Firm, Mild, Grows}
-use Rattle.text.specs.Leaf.{give, want, need, fork}
-use Rattle.lexical.specs.Lexical.{is_loose, fixed, gap, line_end}
+-- The theorems about what specs/Lines.antt defines.
+use Rattle.std.specs.Prelude.{ℕ, List}
+use Rattle.text.specs.Reader.{Local, Firm, Mild, Grows}
 use Rattle.lexical.proofs.Lexical.{locals, milds, firms, gap-local, gap-mild, line_end-local, line_end-mild, line_end-firm, line_end-grows, leading-local, leading-mild}
-use Rattle.lexical.specs.declared.Token.{Token}
-use Rattle.lexical.specs.Token.{token, told_token, size_of}
 use Rattle.lexical.proofs.TokenLaws.{token-local, token-mild}
-use Rattle.integer.specs.Decimal.{parse_u32, parse_i32, unsigned_of, signed_of, unsigned_fault, signed_fault}
-use Rattle.symbol.specs.Symbol.{hash_define, end_width, before}
 use Rattle.lines.specs.Lines.{width_line, element, array_line}
 
 -- ---- laws

@@ -4,7 +4,7 @@ use Rattle.std.proofs.Math.Option.{Option, none, some}
 use Rattle.text.specs.declared.TextLocation.{TextLocation}
 use Rattle.text.specs.Ascii.{ascii}
 use Rattle.text.specs.Place.{pick}
-use Rattle.text.specs.Reader.{Reader, ◌>>=◌, ◌>>◌, Local, Firm, Mild, Grows}
+use Rattle.text.specs.Reader.{Reader, ◌>>=◌, ◌>>◌}
 use Rattle.text.specs.Leaf.{give, want, need, fork}
 use Rattle.lexical.specs.Lexical.{is_loose, fixed, gap, line_end}
 use Rattle.lexical.specs.declared.Token.{Token}

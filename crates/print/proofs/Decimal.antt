@@ -1,8 +1,7 @@
--- Numbers as their decimal digits, from the most significant down; and that reading the digits gives the number back.
-use Rattle.std.specs.Prelude.{ℕ, zero, suc, ◌+◌, ◌-◌, ◌*◌, ◌/◌, ◌%◌, ◌^◌, ◌≤◌, ◌<◌, ◌≡◌, List, [], ◌∷◌, ◌++◌, ltb, ℤ, pos, negsuc, length}
+-- The theorems about what specs/Decimal.antt defines.
+use Rattle.std.specs.Prelude.{ℕ, zero, suc, ◌+◌, ◌-◌, ◌*◌, ◌/◌, ◌%◌, ◌^◌, ◌≤◌, ◌<◌, ◌≡◌, List, [], ◌∷◌, ◌++◌, ℤ, pos, negsuc, length}
 use Rattle.std.proofs.Common.{arith, pow-suc, sym, ap, ◌∙◌, length-append, lt-ltb, le-ltb}
 use Rattle.std.proofs.Math.Decide.{dec_lt}
-use Rattle.text.specs.Place.{pick}
 use Rattle.integer.specs.Decimal.{value_from}
 use Rattle.print.specs.Decimal.{digits, decimal, signed}
 

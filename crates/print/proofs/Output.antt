@@ -1,8 +1,7 @@
--- Bytes put into a lent buffer one after another, from a place in it on; what finds no room is dropped.
-use Rattle.std.specs.Prelude.{ℕ, suc, ◌+◌, ◌≤◌, ◌<◌, ◌≡◌, refl, List, [], ◌∷◌, ◌++◌, ltb}
+-- The theorems about what specs/Output.antt defines.
+use Rattle.std.specs.Prelude.{ℕ, suc, ◌+◌, ◌≤◌, ◌<◌, ◌≡◌, refl, List, [], ◌∷◌, ◌++◌}
 use Rattle.std.proofs.Common.{arith, add-one, sym, ap, ◌∙◌, append_assoc, take-suc-set, drop-set-lt, lt-ltb}
 use lib.ListN.{length, take, drop, set, length-set, length-append}
-use Rattle.text.specs.Place.{pick}
 use Rattle.print.specs.Output.{Output, output, put, puts, joined}
 
 -- ---- laws

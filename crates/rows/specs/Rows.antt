@@ -2,7 +2,7 @@
 use Rattle.std.specs.Prelude.{ℕ, ◌/◌, ◌≡◌, List, Bool, true, false, length, eqb, ltb}
 use Rattle.std.proofs.Math.Option.{none}
 use Rattle.text.specs.declared.TextLocation.{TextLocation}
-use Rattle.text.specs.Reader.{Reader, ◌>>=◌, ◌>>◌, Local}
+use Rattle.text.specs.Reader.{Reader, ◌>>=◌, ◌>>◌}
 use Rattle.text.specs.Leaf.{give, need}
 use Rattle.text.specs.Outcome.{Outcome, accepted, refused, unplaced, outcome}
 use Rattle.lexical.specs.Lexical.{number}

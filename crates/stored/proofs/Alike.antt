@@ -1,5 +1,5 @@
--- Two answers between which nothing differs are alike in every number, but that an integer's fault, which ours tells, counts as the original's one number.
-use Rattle.std.specs.Prelude.{ℕ, ◌*◌, ◌+◌, ◌≤◌, ◌<◌, ◌≡◌, refl, ◌⊎◌, Bool, true, false, eqb, leb}
+-- The theorems about what specs/Alike.antt defines.
+use Rattle.std.specs.Prelude.{ℕ, ◌*◌, ◌+◌, ◌≤◌, ◌<◌, ◌≡◌, refl, Bool, true, false, eqb, leb}
 use Rattle.std.proofs.Common.{arith, inl, inr, eqb-true, leb-true, leb-false}
 use Rattle.std.proofs.Math.Decide.{dec_lt}
 use Rattle.std.proofs.lemmas.Bool.{false≢true}

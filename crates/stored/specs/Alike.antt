@@ -1,13 +1,6 @@
 -- Two answers between which nothing differs are alike in every number, but that an integer's fault, which ours tells, counts as the original's one number.
-use Rattle.std.specs.Prelude.{ℕ, ◌*◌, ◌+◌, ◌≤◌, ◌<◌, ◌≡◌, refl, ◌⊎◌, Bool, true, false, eqb, leb}
-use Rattle.std.proofs.Common.{arith, inl, inr, eqb-true, leb-true, leb-false}
-use Rattle.std.proofs.Math.Decide.{dec_lt}
-use Rattle.std.proofs.lemmas.Bool.{false≢true}
-use Rattle.text.specs.Place.{pick}
+use Rattle.std.specs.Prelude.{ℕ, ◌≤◌, ◌<◌, ◌≡◌, ◌⊎◌}
 use Rattle.stored.specs.declared.Told.{Told}
-use Rattle.stored.specs.declared.Verdict.{Verdict}
-use Rattle.stored.specs.declared.Verdict.TheVariants.{Same, Number, Place, Sides, Hotspot, Name, Cells}
-use Rattle.stored.specs.Record.{counts_as, unless, name_on, hotspot_on, sides_on, place_on, verdict_on}
 
 -- our number beside the original's
 pub data Counts (ours original : ℕ) : Type 0 where

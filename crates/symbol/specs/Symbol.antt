@@ -3,7 +3,7 @@ use Rattle.std.specs.Prelude.{ℕ, ◌-◌, ◌≤◌, ◌≡◌, Bool, true, fa
 use Rattle.std.proofs.Math.Option.{Option, none, some}
 use Rattle.text.specs.Ascii.{ascii}
 use Rattle.text.specs.Place.{pick, start}
-use Rattle.text.specs.Reader.{Result, ok, stop, bad, end_of, Reader, ◌>>=◌, ◌>>◌, Local, Mild}
+use Rattle.text.specs.Reader.{Result, ok, stop, bad, end_of, Reader, ◌>>=◌, ◌>>◌}
 use Rattle.text.specs.Leaf.{want}
 use Rattle.lexical.specs.Lexical.{is_loose, fixed, gap, leading}
 use Rattle.lexical.specs.declared.Token.{Token}

@@ -1,4 +1,4 @@
--- The leaves: a value, a test that takes nothing, one byte, a run that a small machine scans, a literal, a look ahead, the end of the text.
+-- The theorems about what specs/Leaf.antt defines.
 use Rattle.std.specs.Prelude.{◌≡◌, ℕ, suc, ◌+◌, ◌<◌, ◌≤◌, Bool, true, false, List, [], ◌∷◌, ◌==◌}
 use Rattle.std.proofs.Math.Path.{refl}
 use Rattle.std.proofs.Common.{arith}
@@ -8,7 +8,7 @@ use Rattle.text.specs.declared.TextLocation.{TextLocation}
 use Rattle.text.specs.Place.{rest, after, byte_of}
 use Rattle.text.specs.Rest.{Walk, here, on, Reach}
 use Rattle.text.proofs.Rest.{walk-ahead, rest-agree}
-use Rattle.text.specs.Reader.{Result, ok, stop, bad, end_of, end_byte, Reader, Same, Local, Settled, Firm, Placed, Mild, Grows}
+use Rattle.text.specs.Reader.{Result, end_of, end_byte, Reader, Same, Local, Settled, Firm, Placed, Mild, Grows}
 use Rattle.text.specs.Leaf.{give, want, need, Heads, at, Alike, heads, nils, judge, first, one, Move, go_on, halt, stay, moved, scan, run, choose, fork_of, fork, end_if, eot}
 
 pub give-local : {A : Type 0} (a : A) → Local (give a)

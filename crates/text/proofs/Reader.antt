@@ -1,8 +1,7 @@
--- A reader: a text, a place in it, a result with the place where it ends. Assumes nothing.
+-- The theorems about what specs/Reader.antt defines.
 use Rattle.std.specs.Prelude.{◌≡◌, ℕ, zero, suc, ◌<◌, ◌≤◌, List, [], ◌∷◌, length, take, refl}
 use Rattle.std.proofs.Common.{sym, ap, ◌∙◌, arith, le_of_suc-le-suc, not-suc-le-zero, length-take-le}
 use Rattle.std.proofs.Math.Decide.{dec_lt}
-use Rattle.std.proofs.Math.ListN.{get_elem?}
 use Rattle.text.specs.declared.TextLocation.{TextLocation}
 use Rattle.text.specs.Place.{byte_of}
 use Rattle.text.specs.Rest.{Reach}

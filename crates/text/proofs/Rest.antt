@@ -1,4 +1,4 @@
--- What remains at a place, and the places that are reached from it byte by byte. Assumes nothing.
+-- The theorems about what specs/Rest.antt defines.
 use Rattle.std.specs.Prelude.{◌≡◌, ℕ, zero, suc, ◌+◌, ◌-◌, ◌<◌, ◌≤◌, min, Bool, true, false, List, [], ◌∷◌, length, take, drop, ◌==◌, ◌≢◌, nat_le, refl}
 use Rattle.std.proofs.Common.{zero-add, suc-add, arith, sym, ap, ◌∙◌, length-drop, drop-drop, le-leb, leb-true, eq-eqb, eqb-true}
 use Rattle.std.proofs.Math.ListN.{get_elem?}

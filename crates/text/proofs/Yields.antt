@@ -1,4 +1,4 @@
--- What holds of every value that a reader gives.
+-- The theorems about what specs/Yields.antt defines.
 use Rattle.std.specs.Prelude.{◌≡◌, ℕ, List, refl}
 use Rattle.std.proofs.Common.{arith}
 use Rattle.text.specs.declared.TextLocation.{TextLocation}

@@ -1,13 +1,11 @@
 -- The leaves: a value, a test that takes nothing, one byte, a run that a small machine scans, a literal, a look ahead, the end of the text.
-use Rattle.std.specs.Prelude.{◌≡◌, ℕ, suc, ◌+◌, ◌<◌, ◌≤◌, Bool, true, false, List, [], ◌∷◌, ◌==◌}
-use Rattle.std.proofs.Math.Path.{refl}
-use Rattle.std.proofs.Common.{arith}
+use Rattle.std.specs.Prelude.{◌≡◌, ℕ, ◌+◌, ◌≤◌, Bool, true, false, List, [], ◌∷◌, ◌==◌}
 use Rattle.std.proofs.Math.Option.{Option, none, some}
 use Rattle.std.proofs.Math.ListN.{get_elem?}
 use Rattle.text.specs.declared.TextLocation.{TextLocation}
 use Rattle.text.specs.Place.{rest, after, byte_of}
-use Rattle.text.specs.Rest.{Walk, here, on, Reach}
-use Rattle.text.specs.Reader.{Result, ok, stop, bad, end_of, end_byte, Reader, Same, Local, Settled, Firm, Placed, Mild, Grows}
+use Rattle.text.specs.Rest.{Walk}
+use Rattle.text.specs.Reader.{Result, ok, stop, bad, end_of, end_byte, Reader}
 
 -- ---- a value, a test with a place, a test without: they take no byte
 

@@ -1,10 +1,8 @@
--- At a foreign place a text reader acts as at its end: nothing is there, and nothing moves.
+-- The theorems about what specs/Foreign.antt defines.
 use Rattle.std.specs.Prelude.{ℕ, ◌+◌, ◌-◌, ◌<◌, ◌≡◌, List, true, length}
 use Rattle.text.specs.declared.TextLocation.{TextLocation}
-use Rattle.text.specs.declared.Peeked.TheVariants.{Nothing}
 use Rattle.text.specs.Place.{is_foreign}
 use Rattle.text.proofs.PlaceLaws.{foreign-rest, foreign-byte, foreign-column, foreign-line, foreign-start}
-use Rattle.text_reader.specs.declared.Moved.{Moved}
 use Rattle.text_reader.specs.TextReader.{moved_at}
 use Rattle.text_reader.specs.Foreign.{stays}
 

@@ -1,5 +1,4 @@
--- Worked examples of the calls that read a header or a picture, in numbers: a result, the report's ten entries and the hotspot's two.
--- The rows of two tables, by computing. Of each two entries but the two that are always 0 some row has different numbers in them, so none can stand for another.
+-- The theorems about what specs/Calls.antt defines.
 use Rattle.std.specs.Prelude.{ℕ, ◌≡◌, refl, List, [], ◌∷◌, ◌++◌, map, take, replicate, ℤ, pos, neg_ℤ}
 use Prim.Native.String.{String}
 use Rattle.text.specs.Ascii.{ascii}
@@ -17,7 +16,6 @@ use Rattle.body.specs.Data.{item, items, brace, closing, tail, trailer}
 use Rattle.rows.specs.Rows.{whole}
 use Rattle.image.specs.Reading.{picture, reading}
 use Rattle.report.specs.declared.Summary.{Summary}
-use Rattle.report.specs.Report.{report_of, coordinates}
 use Rattle.xbm_c.specs.Told.{Tells, header_told, image_told}
 use Rattle.xbm_c.specs.Calls.{Numbers, told}
 

@@ -1,5 +1,5 @@
--- Room that is enough for every text: with so many bytes of output `xbm_write` never answers 55.
-use Rattle.std.specs.Prelude.{◌≡◌, ℕ, ◌+◌, ◌*◌, ◌≤◌, Bool, List, length, leb, ℤ}
+-- The theorems about what specs/Room.antt defines.
+use Rattle.std.specs.Prelude.{◌≡◌, ℕ, ◌*◌, ◌≤◌, Bool, List, length, leb, ℤ}
 use Rattle.std.proofs.Math.Path.{refl}
 use native.Mathlib.Omega.{arith}
 use Rattle.std.proofs.Math.Bool.{true, false}
@@ -7,7 +7,6 @@ use Rattle.std.proofs.Math.Option.{Option}
 use Rattle.std.proofs.Math.Dec.{eqb}
 use Rattle.std.proofs.Common.{eqb-true, le-leb}
 use Rattle.text.specs.Place.{pick}
-use Rattle.body.specs.Data.{bytes_of}
 use Rattle.mask.specs.Fault.{all_cells, fault}
 use Rattle.report.specs.Report.{hot_given}
 use Rattle.writer.specs.Written.{written}

@@ -1,4 +1,4 @@
--- Worked examples of `xbm_write`, computed from the definitions: the rows of one table, by one claim.
+-- The theorems about what specs/WriteExamples.antt defines.
 use Rattle.std.specs.Prelude.{ℕ, ◌≡◌, refl, List, [], ◌∷◌, ◌++◌, map, replicate, ℤ, pos, negsuc}
 use Rattle.text.specs.Ascii.{ascii}
 use Rattle.mask.specs.Fault.{fault}

@@ -1,4 +1,4 @@
--- The definitions and laws of `xbm_c`, by module.
+-- The definitions of `xbm_c`, by module.
 pub mod Told
 pub mod Next
 pub mod Write
