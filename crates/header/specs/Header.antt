@@ -1,4 +1,4 @@
--- The header, as one reading after another, with its laws.
+-- The header, as one reading after another.
 use Rattle.std.specs.Prelude.{ℕ, true, List, ℤ}
 use Rattle.std.proofs.Math.Option.{Option, none, some}
 use Rattle.text.specs.Ascii.{ascii}

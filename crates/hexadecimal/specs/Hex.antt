@@ -1,4 +1,4 @@
--- Hexadecimal units: `0x` or `0X` and a number of digits, with their laws.
+-- Hexadecimal units: `0x` or `0X` and a number of digits.
 use Prim.Native.Nat.{ℕ, zero, suc, ◌+◌, ◌-◌, ◌*◌}
 use Rattle.std.proofs.Math.Option.{Option, none, some}
 use Rattle.std.specs.Prelude.{List, [], ◌∷◌, Bool, true, false, leb, ltb, eqb}

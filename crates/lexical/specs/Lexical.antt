@@ -1,4 +1,4 @@
--- The lexical rules: readers put together from the leaves, each with its laws.
+-- The lexical rules: readers put together from the leaves.
 use Rattle.std.specs.Prelude.{ℕ, List, [], ◌∷◌, Bool, true, false, eqb}
 use Rattle.std.proofs.Math.Option.{Option, none, some}
 use Rattle.text.specs.Place.{pick}

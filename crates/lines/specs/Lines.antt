@@ -1,4 +1,4 @@
--- The lines of a header: an integer's, one whose symbol is known, the width line, the line that opens the array; with their laws.
+-- The lines of a header: an integer's, one whose symbol is known, the width line, the line that opens the array.
 use Rattle.std.specs.Prelude.{ℕ, ◌+◌, ◌≤◌, ◌≡◌, List, length, eqb, ℤ}
 use Rattle.std.proofs.Math.Option.{Option, none, some}
 use Rattle.text.specs.declared.TextLocation.{TextLocation}
