@@ -1,2 +1,3 @@
--- What the proofs of `body` share.
+-- The theorems of `body` and what its proofs share, by module.
+pub mod Data
 pub mod Laws

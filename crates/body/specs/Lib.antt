@@ -1,3 +1,3 @@
--- The definitions and laws of `body`, by module.
+-- The definitions of `body`, by module.
 pub mod Data
 pub mod Code

@@ -1,3 +1,2 @@
 -- The definitions of `byte_report` and examples of them, by module.
 pub mod Next
-pub mod Examples

@@ -1,5 +1,6 @@
 // What a call tells of a data byte, as numbers in the order of include/xbm.h.
 #![tactic(auto)]
+
 ghost use Rattle.std.specs.Prelude.{◌≡◌};
 ghost use Rattle.decoder.specs.Step.{told_next};
 ghost use Rattle.byte_report.specs.Next.{reported, next_number, next_report};

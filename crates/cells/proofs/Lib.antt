@@ -1,3 +1,4 @@
--- What the proofs of `cells` share, by module.
+-- The theorems of `cells` and what its proofs share, by module.
+pub mod Kept
 pub mod Stores
 pub mod Paint

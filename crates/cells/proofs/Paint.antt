@@ -13,7 +13,7 @@ use Rattle.text.specs.declared.TextLocation.{TextLocation}
 use Rattle.body.specs.Data.{Log, row_bytes}
 use Rattle.cells.specs.Cells.{ink, byte_for, byte_at, inked, cell, cells_from, painted}
 use Rattle.cells.specs.Stores.{dab, byte_stored}
-use Rattle.cells.specs.Kept.{at-past}
+use Rattle.cells.proofs.Kept.{at-past}
 use Rattle.cells.proofs.Stores.{length-dab, left-within}
 
 -- ---- a log with one byte more

@@ -1,4 +1,3 @@
--- The definitions and laws of `cells`, by module.
+-- The definitions of `cells`, by module.
 pub mod Cells
 pub mod Stores
-pub mod Kept

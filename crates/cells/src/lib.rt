@@ -1,5 +1,6 @@
 // The cells of a data byte: its bits, stored where they fall in a lent buffer.
 #![tactic(auto)]
+
 ghost use Rattle.std.specs.Prelude.{◌≡◌};
 ghost use Rattle.cells.specs.Cells.{ink};
 ghost use Rattle.cells.specs.Stores.{unpacked, byte_stored};

@@ -1,56 +1,26 @@
--- THE CLAIMS. To believe them, read: the grammar (Lang and Grammar, what a text of the format is), the reading that all contracts cite
--- (Reading and what it names), Terms (the words used here), and this file. Every proof below is a citation.
-use Rattle.std.specs.Prelude.{◌≡◌, ◌↔◌, ◌⊎◌, ℕ, ◌+◌, ◌-◌, ◌*◌, ◌/◌, ◌≤◌, ◌<◌, min, List, [], ◌++◌, length, take, eqb}
+-- What the claims say of a text, where it takes a record. The claims stand in proofs/Claims, where also stands what to read to believe them.
+use Rattle.std.specs.Prelude.{◌≡◌, ◌↔◌, ◌⊎◌, ℕ, ◌+◌, ◌-◌, ◌*◌, ◌/◌, ◌≤◌, ◌<◌, min, List, ◌++◌, length, take, eqb}
 use Rattle.std.proofs.Math.Option.{none, some}
 use Rattle.std.proofs.Math.ListN.{get_elem?}
 use Rattle.text.specs.declared.TextLocation.{TextLocation}
 use Rattle.text.specs.Place.{byte_of, start, past}
-use Rattle.text.specs.Outcome.{accepted, refused, unplaced, outcome}
+use Rattle.text.specs.Outcome.{accepted, refused, outcome}
 use Rattle.header.specs.Header.{Head}
 use Rattle.body.specs.Data.{item, trailer}
 use Rattle.decoder.specs.Step.{placed_at, step_of}
 use Rattle.image.specs.Reading.{Reading, reading}
 use Rattle.grammar.specs.Lang.{◌·◌}
-use Rattle.grammar.specs.Grammar.{Mask, Header, Data, Format}
-use Rattle.grammar.specs.Flat.{one-mask}
-use Rattle.claims.specs.Terms.{head_of, having, W, rows, Fitting, Rule, Last, Begun, Came, Stands, Mismatched, HeaderRefusal, symbol_of, Opening, over}
-use Rattle.claims.specs.Accepts
-use Rattle.claims.specs.Semicolon
-use Rattle.claims.specs.Parts
-use Rattle.claims.specs.Came
-use Rattle.claims.specs.Cuts
-use Rattle.claims.specs.Mismatch
-use Rattle.claims.specs.Headless
-use Rattle.claims.specs.AllCells
-use Rattle.claims.specs.Steps
+use Rattle.grammar.specs.Grammar.{Mask, Header, Data}
+use Rattle.claims.specs.Terms.{having, W, rows, Rule, Last, Begun, Came, Stands, symbol_of, Opening, over}
 use Rattle.claims.specs.Steps.{calls, decoder_of}
 
--- 1. ACCEPTS (demand 2). For every text, name buffer and pixel buffer: the reading accepts with a header exactly if the text is written as the grammar says, for some mask
--- with that header and with the name buffer's length as the symbol's limit, and the pixel buffer has just the picture's rows (and perhaps a part of one more).
-pub accepts : (text name pixels : List ℕ) (h : Head)
-    → ((reading text name pixels).answer ≡ accepted h) ↔ ((m : Mask) × (head_of m ≡ h) × Format (length name) m text × Fitting m pixels)
-accepts = Accepts.accepts-exactly
-
--- And then, for every such mask: the name handed back; the name buffer, the symbol's bytes and then as lent; each cell of the picture by the rule; every other cell as lent.
+-- 1. ACCEPTS. Of an accepted text, for every such mask: the name handed back; the name buffer, the symbol's bytes and then as lent; each cell of the picture by the rule; every other cell as lent.
 pub record Filled (m : Mask) (name pixels : List ℕ) (later : Reading) : Type 0 where
   pub called : later.name ≡ m.name
   pub symbol : later.symbol ≡ over (symbol_of m) name
   pub picture : (y i : ℕ) → y < m.height → i < m.width → Rule m y i (get_elem? later.pixels (y * m.width + i))
   pub rest : (c : ℕ) → m.height * m.width ≤ c → get_elem? later.pixels c ≡ get_elem? pixels c
   pub size : length later.pixels ≡ length pixels
-
-pub fills : (text name pixels : List ℕ) (m : Mask) → Format (length name) m text → Fitting m pixels → Filled m name pixels (reading text name pixels)
-fills t name pixels m f r = record {
-  called = Cuts.whole-name t name pixels m f r;
-  symbol = Cuts.whole-symbol t name pixels m f r;
-  picture = Cuts.whole_cells t name pixels m f r;
-  rest = Cuts.whole-rest t name pixels m f r;
-  size = Cuts.whole-size t name pixels m f r;
-}
-
--- 2. UNAMBIGUOUS. A text writes one mask at most, under any limits.
-pub unambiguous : (a b : ℕ) (m n : Mask) (text : List ℕ) → Format a m text → Format b n text → m ≡ n
-unambiguous = one-mask
 
 -- 3. CUTS (demand 3). Of a text that writes m, with buffers that fit, the first n bytes are read into the same buffers.
 pub record Cut (text name pixels : List ℕ) (m : Mask) (n : ℕ) (cut : Reading) : Type 0 where
@@ -76,40 +46,6 @@ pub record Cut (text name pixels : List ℕ) (m : Mask) (n : ℕ) (cut : Reading
   -- of the symbol, which stands after u, the bytes that came; the rest of the name buffer as lent
   pub symbol : (u : List ℕ) × (v : List ℕ) × (text ≡ u ++ (symbol_of m ++ v)) × Opening u × (cut.symbol ≡ over (take (n - length u) (symbol_of m)) name)
 
-pub cuts : (text name pixels : List ℕ) (m : Mask) (n : ℕ) → Format (length name) m text → Fitting m pixels → n ≤ length text
-    → Cut text name pixels m n (reading (take n text) name pixels)
-cuts t name pixels m n f r h = record {
-  bytes = Came.many (length name) t m f;
-  stands = Came.stands (length name) t m f;
-  semicolon = Parts.semi (length name) t m f;
-  last = Semicolon.last (length name) t m (Parts.end (length name) t m f);
-  refuses = Cuts.cut-refused t name pixels m f r n h;
-  parse = Cuts.cut-parse t name pixels m f r n h;
-  late = Cuts.cut-late t name pixels m f r n h;
-  cells = Cuts.cut_cells t name pixels m f r n h;
-  rest = Cuts.cut-rest t name pixels m f r n h;
-  size = Cuts.cut-size t name pixels m f r n h;
-  symbol = Cuts.cut_opened t name pixels m f r n h;
-}
-
--- 4. MISMATCH. 31 comes, with no place, exactly if the pixel buffer has too many rows and the text is sound to its end,
--- or too few and the text has the header, the data bytes of the buffer's rows and the next one.
-pub mismatches : (text name pixels : List ℕ) → ((reading text name pixels).answer ≡ unplaced 31) ↔ Mismatched (length name) text pixels
-mismatches = Mismatch.exactly-31
-
--- 5. HEADERS. Where the text begins with a header, its name is handed back and the name buffer holds its symbol and then is as lent, whatever follows.
-pub named : (text name pixels : List ℕ) (m : Mask) → Begun (Header (length name) m) text
-    → ((reading text name pixels).name ≡ m.name) × ((reading text name pixels).symbol ≡ over (symbol_of m) name)
-named t name pixels m b = (Headless.header-name t name pixels m b, Cuts.header-symbol t name pixels m b)
-
--- The header is refused exactly if the text begins with none; then no pixel has moved, and the name handed back is empty.
-pub headless : (text name pixels : List ℕ) → HeaderRefusal (reading text name pixels).answer ↔ ((m : Mask) → Begun (Header (length name) m) text → ⊥)
-headless = Headless.headless
-
-pub untouched : (text name pixels : List ℕ) → HeaderRefusal (reading text name pixels).answer
-    → ((reading text name pixels).name ≡ []) × ((reading text name pixels).pixels ≡ pixels)
-untouched = Headless.untouched
-
 -- 6. CELLS. Where the text begins with a header, whatever the answer: a cell of the picture in a whole row of the buffer is by the rule
 -- if the text has the data bytes up to the cell's own, and else as lent; every other cell is as lent.
 pub record Kept (text name pixels : List ℕ) (m : Mask) (later : Reading) : Type 0 where
@@ -119,16 +55,9 @@ pub record Kept (text name pixels : List ℕ) (m : Mask) (later : Reading) : Typ
   pub rest : (c : ℕ) → min (rows m pixels) m.height * m.width ≤ c → get_elem? later.pixels c ≡ get_elem? pixels c
   pub size : length later.pixels ≡ length pixels
 
-pub keeps : (text name pixels : List ℕ) (m : Mask) → Begun (Header (length name) m) text → Kept text name pixels m (reading text name pixels)
-keeps t name pixels m b = record { cells = AllCells.kept-cells t name pixels m b; rest = AllCells.kept-rest t name pixels m b; size = AllCells.kept-size t name pixels m b }
-
 -- 7. STEPS. Where the text begins with a header, u, and data bytes l, z: after as many calls for the next byte as l has, the decoder has spent them and stands after them,
 -- and the next call gives what the readers of all the rest read there: the next data byte, or after the last the trailer.
 pub record Stepped (text : List ℕ) (m : Mask) (from after : TextLocation) (l : List ℕ) : Type 0 where
   pub decoder : calls (length l) text (decoder_of m from) ≡ placed_at (decoder_of m from) (length l) after
   pub next : length l < W m * m.height → (step_of text (calls (length l) text (decoder_of m from))).answer ≡ outcome (λ b. some b) (item (eqb (length l) 0) text after)
   pub last : length l ≡ W m * m.height → (step_of text (calls (length l) text (decoder_of m from))).answer ≡ outcome (λ x. none) (trailer text after)
-
-pub steps : (limit : ℕ) (text : List ℕ) (m : Mask) (u z v l : List ℕ) → text ≡ u ++ (z ++ v) → Header limit m u → Data l z → length l ≤ W m * m.height
-    → Stepped text m (past start u) (past start (u ++ z)) l
-steps lim t m u z v l q h d n = record { decoder = Steps.called-so lim t m u z v l q h d n; next = Steps.next-so lim t m u z v l q h d n; last = Steps.last-so lim t m u z v l q h d n }

@@ -1,24 +1,7 @@
--- The definitions and laws of `claims`, by module.
+-- The definitions of `claims`, by module.
 pub mod Terms
-pub mod Numbers
-pub mod Logs
-pub mod Painted
-pub mod Semicolon
-pub mod Symbol
-pub mod Parts
-pub mod Accepts
-pub mod Came
-pub mod Cuts
-pub mod Mismatch
-pub mod Headless
-pub mod AllCells
 pub mod Claims
-pub mod Vacuous
-pub mod Listings
 pub mod Masks
 pub mod Steps
 pub mod Written
-pub mod Limits
-pub mod Prints
-pub mod Distinct
 pub mod Program

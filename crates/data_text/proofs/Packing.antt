@@ -10,7 +10,7 @@ use lib.ListN.{length, get_or, get_or-eq_default}
 use borrow.Author.Tests.{eq-eqb, ne_eqb}
 use Rattle.body.specs.Data.{row_bytes}
 use Rattle.data_text.specs.Packed.{bit_at, bits, first_cell, cells_in, packed_at}
-use Rattle.data_text.specs.Bits.{bits_small}
+use Rattle.data_text.proofs.Bits.{bits_small}
 
 -- ---- bits
 

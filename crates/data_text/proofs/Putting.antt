@@ -10,7 +10,8 @@ use lib.ListN.{length}
 use borrow.Author.Tests.{eq-eqb, ne_eqb, lt-ltb, le-ltb}
 use Rattle.text.specs.Ascii.{ascii}
 use Rattle.body.specs.Data.{bytes_of}
-use Rattle.print.specs.Output.{Output, output, put, puts, puts-append}
+use Rattle.print.specs.Output.{Output, output, put, puts}
+use Rattle.print.proofs.Output.{puts-append}
 use Rattle.data_text.specs.Packed.{packed_at, packed_from, packed}
 use Rattle.data_text.specs.DataText.{lead_text, hex_text, byte_text, item_text, data_text}
 

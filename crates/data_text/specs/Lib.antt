@@ -1,5 +1,3 @@
--- The definitions and laws of `data_text`, by module.
+-- The definitions of `data_text`, by module.
 pub mod Packed
 pub mod DataText
-pub mod Bits
-pub mod Size

@@ -1,5 +1,6 @@
 // The data bytes of a picture as text: packed from its cells, twelve to a line, put into a lent buffer.
 #![tactic(auto)]
+
 ghost use Rattle.std.specs.Prelude.{◌≡◌, ◌+◌, ◌^◌, ◌<◌, ◌≤◌};
 ghost use Rattle.body.specs.Data.{bytes_of};
 ghost use Rattle.print.specs.Output.{output, puts};

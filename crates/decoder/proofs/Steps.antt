@@ -11,7 +11,7 @@ use mathlib.Core.Bool.{Bool, true, false}
 use lib.Dec.{eqb, ltb}
 use Rattle.text.specs.declared.TextLocation.{TextLocation}
 use Rattle.text.specs.Place.{is_foreign}
-use Rattle.text.specs.Reader.{◌>>=◌, ◌>>◌}
+use Rattle.text.specs.Reader.{◌>>=◌}
 use Rattle.text.specs.Leaf.{give}
 use Rattle.text.specs.Outcome.{Outcome, accepted, refused, unplaced}
 use Rattle.lexical.specs.declared.XbmPart.{XbmPart}

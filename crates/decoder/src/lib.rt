@@ -1,5 +1,6 @@
 // The stream decoder: one data byte a call, and after the last the trailer. By value; the text stands apart.
 #![tactic(auto)]
+
 ghost use Rattle.std.specs.Prelude.{◌≡◌};
 ghost use Rattle.body.specs.Data.{bytes_of};
 ghost use Rattle.decoder.specs.Step.{foreign, placed_at, told_call, told_step, step_of};

@@ -1,4 +1,2 @@
--- Which fault a token has that is no integer, by module.
+-- The definitions of `faults`, by module.
 pub mod Terms
-pub mod Tokens
-pub mod Faults

@@ -1,2 +1,2 @@
-// What is wrong with a token that is no integer: claims and their proofs, in specs/. No code.
+// What is wrong with a token that is no integer: definitions in specs/, claims and their proofs in proofs/. No code.
 #![tactic(auto)]

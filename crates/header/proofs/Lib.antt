@@ -1,4 +1,6 @@
--- What the proofs of `header` share, by module.
+-- The theorems of `header` and what its proofs share, by module.
+pub mod Examples
+pub mod Header
 pub mod Told
 pub mod Parts
 pub mod Laws

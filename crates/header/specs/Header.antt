@@ -1,11 +1,11 @@
--- The header, as one reading after another, with its laws.
+-- The header, as one reading after another.
 use Rattle.std.specs.Prelude.{ℕ, true, List, ℤ}
 use Rattle.std.proofs.Math.Option.{Option, none, some}
 use Rattle.text.specs.Ascii.{ascii}
-use Rattle.text.specs.Reader.{Reader, ◌>>=◌, ◌>>◌, Local, Firm}
+use Rattle.text.specs.Reader.{Reader, ◌>>=◌, ◌>>◌}
 use Rattle.text.specs.Leaf.{give, fork}
-use Rattle.lexical.specs.Lexical.{leading, locals, firms}
-use Rattle.lines.specs.Lines.{signed, side, line, width_line, array_line, line_laws, array_laws, width-local, width-firm, width-grows}
+use Rattle.lexical.specs.Lexical.{leading}
+use Rattle.lines.specs.Lines.{signed, side, line, width_line, array_line}
 
 -- what a header says
 pub record Head : Type 0 where
@@ -29,23 +29,3 @@ rest name w h = fork 5 35 (hotspot name (λ x y. ending name w h (some (x, y))))
 -- the header up to and including the opening brace
 unfoldable pub header : ℕ → Reader Head
 header limit = leading 1 true >> width_line limit >>= λ nw. line 2 nw.0 (ascii "_height") (side 120 22) >>= λ h. rest nw.0 nw.1 h
-
--- ---- laws
-
-module _ (name : List ℕ) (w h : ℕ) where
-  pub rest-local : Local (rest name w h)
-  unfolding rest
-  rest-local = search (locals, line_laws, array_laws) depth 40 fits 10000
-
-  pub rest-firm : Firm (rest name w h)
-  unfolding rest
-  rest-firm = search (firms, line_laws, array_laws) depth 50 fits 20000
-
-module _ (limit : ℕ) where
-  pub header-local : Local (header limit)
-  unfolding header
-  header-local = search (locals, line_laws, width-local, rest-local) depth 40 fits 10000
-
-  pub header-firm : Firm (header limit)
-  unfolding header
-  header-firm = search (firms, line_laws, width-local, width-firm, width-grows, rest-local, rest-firm) depth 50 fits 20000

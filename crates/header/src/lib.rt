@@ -1,5 +1,6 @@
 // The XBM header, up to and including the first opening brace. The name is stored in a lent buffer, the rest comes back by value.
 #![tactic(auto)]
+
 ghost use Rattle.std.specs.Prelude.{◌≡◌};
 ghost use Rattle.text.specs.Outcome.{shown};
 ghost use Rattle.header.specs.Answer.{hot_of, told_header, ending_of, rest_of, height_of, sides_of, Headed};

@@ -10,7 +10,8 @@ use Rattle.text.specs.Ascii.{ascii}
 use Rattle.header.specs.declared.Hotspot.{Hotspot}
 use Rattle.header.specs.declared.Hotspot.TheVariants.{Absent, At}
 use Rattle.header.specs.Answer.{hot_of}
-use Rattle.print.specs.Output.{Output, output, puts, joined, puts-append}
+use Rattle.print.specs.Output.{Output, output, puts, joined}
+use Rattle.print.proofs.Output.{puts-append}
 use Rattle.print.specs.Decimal.{signed}
 use Rattle.print.proofs.Laws.{joined_laws}
 use Rattle.header_text.specs.HeaderText.{start_text, define_text, spot_text}

@@ -1,2 +1,3 @@
--- The laws of `header_text`.
+-- The theorems of `header_text` and what its proofs share, by module.
+pub mod Size
 pub mod Laws

@@ -1,3 +1,2 @@
--- The definitions and laws of `header_text`, by module.
+-- The definitions of `header_text`, by module.
 pub mod HeaderText
-pub mod Size

@@ -1,5 +1,6 @@
 // A mask's header as text, line after line, put into a lent buffer.
 #![tactic(auto)]
+
 ghost use Rattle.std.specs.Prelude.{◌≡◌};
 ghost use Rattle.header.specs.Answer.{hot_of};
 ghost use Rattle.print.specs.Output.{output, puts};

@@ -1,2 +1,3 @@
--- What the proofs of `hex` share, by module.
+-- The theorems of `hexadecimal` and what its proofs share, by module.
+pub mod HexLaws
 pub mod Hex

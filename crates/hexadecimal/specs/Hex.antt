@@ -1,11 +1,11 @@
--- Hexadecimal units: `0x` or `0X` and a number of digits, with their laws.
+-- Hexadecimal units: `0x` or `0X` and a number of digits.
 use Prim.Native.Nat.{ℕ, zero, suc, ◌+◌, ◌-◌, ◌*◌}
 use Rattle.std.proofs.Math.Option.{Option, none, some}
 use Rattle.std.specs.Prelude.{List, [], ◌∷◌, Bool, true, false, leb, ltb, eqb}
 use Rattle.text.specs.Place.{pick}
-use Rattle.text.specs.Reader.{Reader, ◌>>=◌, ◌>>◌, Local, Firm, Mild, Grows, bind-local, bind-firm, bind-mild}
-use Rattle.text.specs.Leaf.{give, give-local, give-firm, give-mild, one, one_local, one-firm, one-mild, one_grows}
-use Rattle.lexical.specs.Lexical.{byte, fixed, locals, milds, firms}
+use Rattle.text.specs.Reader.{Reader, ◌>>=◌, ◌>>◌}
+use Rattle.text.specs.Leaf.{give, one}
+use Rattle.lexical.specs.Lexical.{byte, fixed}
 
 -- from `lo` to `hi`
 abbrev pub within : ℕ → ℕ → ℕ → Bool
@@ -49,55 +49,3 @@ hex_unit c n = hex_start c >> hex_digit c >>= hex_digits c n
 -- a unit of two digits
 abbrev pub hex_byte : ℕ → Reader ℕ
 hex_byte c = hex_unit c 1
-
--- ---- laws
-
-module _ (c : ℕ) where
-  pub hex_digit-local : Local (hex_digit c)
-  unfolding hex_digit
-  hex_digit-local = one_local c hexv
-
-  pub hex_digit-firm : Firm (hex_digit c)
-  unfolding hex_digit
-  hex_digit-firm = one-firm c hexv
-
-  pub hex_digit-mild : Mild (hex_digit c)
-  unfolding hex_digit
-  hex_digit-mild = one-mild c hexv
-
-  pub hex_digit-grows : Grows (hex_digit c)
-  unfolding hex_digit
-  hex_digit-grows = one_grows c hexv
-
-  pub hex_digits-local : (n v : ℕ) → Local (hex_digits c n v)
-  unfolding hex_digits
-  hex_digits-local zero v = give-local v
-  hex_digits-local (suc n) v = bind-local hex_digit-local (λ d. hex_digits-local n (v * 16 + d))
-
-  pub hex_digits-firm : (n v : ℕ) → Firm (hex_digits c n v)
-  unfolding hex_digits
-  hex_digits-firm zero v = give-firm v
-  hex_digits-firm (suc n) v = bind-firm hex_digit-local (λ d. hex_digits-local n (v * 16 + d)) hex_digit-firm (λ d. hex_digits-firm n (v * 16 + d))
-
-  pub hex_digits-mild : (n v : ℕ) → Mild (hex_digits c n v)
-  unfolding hex_digits
-  hex_digits-mild zero v = give-mild v
-  hex_digits-mild (suc n) v = bind-mild hex_digit-local (λ d. hex_digits-local n (v * 16 + d)) hex_digit-mild (λ d. hex_digits-mild n (v * 16 + d))
-
-  ruleset digit_laws = (hex_digit-local, hex_digit-firm, hex_digit-mild, hex_digit-grows, hex_digits-local, hex_digits-firm, hex_digits-mild)
-
-  pub hex_unit-local : (n : ℕ) → Local (hex_unit c n)
-  unfolding hex_unit hex_start
-  hex_unit-local n = search (locals, digit_laws) depth 12
-
-  pub hex_unit-mild : (n : ℕ) → Mild (hex_unit c n)
-  unfolding hex_unit hex_start
-  hex_unit-mild n = search (milds, locals, digit_laws) depth 12
-
-  pub hex_unit-firm : (n : ℕ) → Firm (hex_unit c n)
-  unfolding hex_unit hex_start
-  hex_unit-firm n = search (firms, digit_laws) depth 20 fits 4000
-
-  pub hex_unit-grows : (n : ℕ) → Grows (hex_unit c n)
-  unfolding hex_unit hex_start
-  hex_unit-grows n = search (firms, digit_laws) depth 20 fits 4000

@@ -1,2 +1,2 @@
--- The definitions and laws of `hex`, by module.
+-- The definitions of `hex`, by module.
 pub mod Hex

@@ -1,5 +1,6 @@
 // The hotspot's two lines, with a coordinate each.
 #![tactic(auto)]
+
 ghost use Rattle.std.specs.Prelude.{◌≡◌};
 ghost use Rattle.text.specs.Outcome.{shown};
 ghost use Rattle.lexical.specs.Lexical.{number};

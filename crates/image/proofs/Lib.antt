@@ -1,3 +1,4 @@
--- What the proofs of `image` share, by module.
+-- The theorems of `image` and what its proofs share, by module.
+pub mod Limited
 pub mod Whole
 pub mod Limit

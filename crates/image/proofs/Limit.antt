@@ -31,7 +31,8 @@ use Rattle.image.specs.declared.LimitedAnswer.{LimitedAnswer}
 use Rattle.cells.specs.Cells.{painted, count}
 use Rattle.rows.specs.Rows.{whole}
 use Rattle.image.specs.Reading.{picture, reading, told_image, Pictured}
-use Rattle.image.specs.Limited.{unpictured, pictured, told_limited, limited_reading, limited_of, after_header, limited, Bounded, Limited, Within, within-long, within-short}
+use Rattle.image.specs.Limited.{unpictured, pictured, told_limited, limited_reading, limited_of, after_header, limited, Bounded, Limited, Within}
+use Rattle.image.proofs.Limited.{within-long, within-short}
 use Rattle.ink.proofs.Ink.{size_fits, size-within, first-cells, other-cells}
 use Rattle.image.proofs.Whole.{head-is, name-fits, same-reading}
 

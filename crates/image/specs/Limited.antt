@@ -1,8 +1,6 @@
 -- The reading of pixels within limits on the text's bytes and on the cells: the first limit, the header, the second,
 -- then the picture, into the first width times height cells lent.
 use Rattle.std.specs.Prelude.{◌≡◌, ℕ, ◌*◌, ◌≤◌, ◌<◌, true, List, [], ◌++◌, length, take, drop, ltb}
-use Rattle.std.proofs.Common.{sym, ap, ◌∙◌, arith, length-take, take_all, lt-ltb, le-ltb}
-use Rattle.std.proofs.Math.Decide.{dec_lt}
 use Rattle.text.specs.declared.TextLocation.{TextLocation}
 use Rattle.text.specs.Place.{pick, start}
 use Rattle.text.specs.Reader.{Result, ok, stop, bad}
@@ -87,23 +85,3 @@ pub record Bounded (limit : ℕ) (d : XbmHeaderData) (t : List ℕ) (p : TextLoc
       → told_limited name r ≡ outcome (λ (l : List ℕ). head_of name d) (whole d.width d.height (length (take (d.width * d.height) lent)) t p)
   pub stored : d.width * d.height ≤ limit
       → later ≡ painted d.width (log_of (count d.width d.height (length (take (d.width * d.height) lent))) true t p) (take (d.width * d.height) lent) ++ drop (d.width * d.height) lent
-
--- ---- laws
-
--- a text above the limit is 41
-pub within-long : (bytes most : ℕ) (text name cells : List ℕ) → bytes < length text → within bytes most text name cells ≡ unread (unplaced 41) name cells
-unfolding within
-within-long bytes most text name cells h = rw (lt-ltb bytes (length text) h)
-
--- any other is read, within the limit on the cells
-pub within-short : (bytes most : ℕ) (text name cells : List ℕ) → length text ≤ bytes → within bytes most text name cells ≡ limited most text name cells
-unfolding within
-within-short bytes most text name cells h = rw (le-ltb bytes (length text) h)
-
--- the first n bytes of a text are read as the text is, if n is above the limit
-pub within-beginning : (bytes most : ℕ) (text name cells : List ℕ) (n : ℕ) → bytes < n → within bytes most (take n text) name cells ≡ within bytes most text name cells
-within-beginning bytes most text name cells n h = go (dec_lt n (length text))
-  where
-    go : Dec (n < length text) → within bytes most (take n text) name cells ≡ within bytes most text name cells
-    go (yes l) = within-long bytes most (take n text) name cells (omega (arith, length-take n text)) ∙ sym (within-long bytes most text name cells (omega arith))
-    go (no l) = ap (λ (t : List ℕ). within bytes most t name cells) (take_all n text (omega arith))

@@ -1,5 +1,6 @@
 // Pixels from a text: the header, then the rows of cells, into lent buffers.
 #![tactic(auto)]
+
 ghost use Rattle.std.specs.Prelude.{◌≡◌};
 ghost use Rattle.image.specs.Limited.{limited_of, Bounded, Limited, Within};
 ghost use Rattle.image.specs.Reading.{Pictured, Imaged};

@@ -16,8 +16,9 @@ use Rattle.text.specs.declared.TextLocation.{TextLocation}
 use Rattle.text.specs.declared.Peeked.{Peeked}
 use Rattle.text.specs.declared.Peeked.TheVariants.{Found, Nothing}
 use Rattle.text.specs.Place.{pick, has_left, along_line, past_line, rest, after, past, byte_of, peeked, peeked_at}
-use Rattle.text.specs.Rest.{Sound, after-rest, newlines}
-use Rattle.text.specs.PlaceLaws.{sound-rest, left-inside, left-none, along-past, line-past}
+use Rattle.text.specs.Rest.{Sound, newlines}
+use Rattle.text.proofs.Rest.{after-rest}
+use Rattle.text.proofs.PlaceLaws.{sound-rest, left-inside, left-none, along-past, line-past}
 use Rattle.text.specs.Reader.{Result, ok, stop, then, ◌>>=◌}
 use Rattle.text.specs.Leaf.{one, run, scan}
 use Rattle.lexical.specs.declared.XbmPart.{XbmPart}

@@ -1,3 +1,5 @@
--- What the proofs of `lexical` share, by module.
+-- The theorems of `lexical` and what its proofs share, by module.
+pub mod Lexical
+pub mod TokenLaws
 pub mod Laws
 pub mod Tokens

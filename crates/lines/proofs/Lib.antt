@@ -1,3 +1,4 @@
--- What the proofs of `lines`, and of the readings that go on after a line, share, by module.
+-- The theorems of `lines` and what its proofs share, by module.
+pub mod Lines
 pub mod Laws
 pub mod Told

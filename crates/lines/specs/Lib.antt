@@ -1,2 +1,2 @@
--- The definitions and laws of `lines`, by module.
+-- The definitions of `lines`, by module.
 pub mod Lines

@@ -1,5 +1,6 @@
 // The lines of a header whose parts are known: a define line up to its integer token, and the line that opens the array.
 #![tactic(auto)]
+
 ghost use Rattle.std.specs.Prelude.{◌≡◌};
 ghost use Rattle.text.specs.Leaf.{give};
 ghost use Rattle.lexical.specs.Lexical.{number, told, onto};

@@ -1,5 +1,6 @@
 // The listing of a mask: what the program prints, made of a text in lent buffers.
 #![tactic(auto)]
+
 ghost use Rattle.std.specs.Prelude.{◌≡◌};
 ghost use Rattle.print.specs.Output.{output, puts};
 ghost use Rattle.listing.specs.Listing.{answer_text, Answered, Lists};

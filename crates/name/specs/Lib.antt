@@ -1,2 +1,2 @@
--- The definitions and laws of `name`, by module.
+-- The definitions of `name`, by module.
 pub mod Parted

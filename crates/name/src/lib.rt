@@ -1,5 +1,6 @@
 // The name as a part of the lent name buffer: it carries the buffer's lifetime and not the text's.
 #![tactic(auto)]
+
 ghost use Rattle.std.specs.Prelude.{◌≡◌, min, take, drop};
 ghost use Rattle.name.specs.Parted.{Stored, Parted};
 

@@ -1,24 +1,12 @@
--- THE CLAIM ON THE EARLIEST PLACE: the bytes before the wrong one can still be saved, and with it no longer. To believe
--- it, read: the grammar (Lang and Grammar), the reading that all contracts cite (Reading and what it names), Terms of
--- `claims` and of `refusals`, Savable (the words used here, and what it names), and this file. Every proof below is a
--- citation.
+-- What the claim on the earliest place says of a refusal, as a record. The claim stands in proofs/Earliest.
 use Rattle.std.specs.Prelude.{◌≡◌, ◌⊎◌, ℕ, ◌*◌, ◌≤◌, ◌<◌, List, ◌++◌, length, ℤ}
 use Rattle.text.specs.declared.TextLocation.{TextLocation}
 use Rattle.text.specs.Ascii.{ascii}
-use Rattle.text.specs.Place.{byte_of}
-use Rattle.text.specs.Outcome.{refused}
-use Rattle.image.specs.Reading.{reading}
-use Rattle.grammar.specs.Lang.{Lang, Word, Lit, ◌·◌}
+use Rattle.grammar.specs.Lang.{Word, Lit, ◌·◌}
 use Rattle.grammar.specs.Grammar.{Mask, Side, Coordinate, Array, Header, Data, Closing, Format}
 use Rattle.claims.specs.Terms.{Begun, Opening, W, rows}
 use Rattle.refusals.specs.Terms.{Front, Sides, Third, Fourth, No}
 use Rattle.places.specs.Savable.{Savable, SavableLine, SavableDefine, BeforeWidth, Width, GoodSymbol, Stuck, Read}
-use Rattle.places.specs.EarliestWidth
-use Rattle.places.specs.EarliestRows
-use Rattle.places.specs.EarliestArray
-use Rattle.places.specs.EarliestData
-use Rattle.places.specs.EarliestEnd
-use Rattle.places.specs.EarliestOnce
 
 -- A text that is refused with number c at p: what stands in it, and what can still stand there. A part a number.
 pub record Earliest (text name pixels : List ℕ) (c : ℕ) (p : TextLocation) : Type 0 where
@@ -60,28 +48,3 @@ pub record Earliest (text name pixels : List ℕ) (c : ℕ) (p : TextLocation) :
   pub n8 : c ≡ 8
       → (m : Mask) × (m.height ≤ rows m pixels) × (length m.bytes ≡ W m * m.height)
       × Begun (Header (length name) m · Data m.bytes · Closing) text × Savable text p (Format (length name) m)
-
-pub earliest : (text name pixels : List ℕ) (c : ℕ) (p : TextLocation) → (reading text name pixels).answer ≡ refused c p
-    → Earliest text name pixels c p
-earliest t name pixels c p q = record {
-  n1 = λ e. EarliestWidth.earliest-1 t name pixels p (rw e at q);
-  n2 = λ e. EarliestRows.earliest-2 t name pixels p (rw e at q);
-  n3 = λ e. EarliestRows.earliest-3 t name pixels p (rw e at q);
-  n4 = λ e. EarliestRows.earliest-4 t name pixels p (rw e at q);
-  n5 = λ e. EarliestArray.earliest-5 t name pixels p (rw e at q);
-  n6 = λ e. EarliestData.earliest-6 t name pixels p (rw e at q);
-  n7 = λ e. EarliestData.earliest-7 t name pixels p (rw e at q);
-  n8 = λ e. EarliestEnd.earliest-8 t name pixels p (rw e at q);
-}
-
--- Why a name buffer below 6 bytes stands apart: with it no text at all begins with a width line.
-pub cramped : (limit : ℕ) (text : List ℕ) → limit < 6 → Width limit text → ⊥
-cramped = EarliestWidth.no_room
-
--- That fixes the place: of one text no two places can both be so, whatever is to stand there.
-pub once : (L : Lang) (text : List ℕ) (p q : TextLocation) → Savable text p L → Savable text q L → byte_of p ≡ byte_of q
-once = EarliestOnce.once
-
-pub once-line : (K L : Lang) (text : List ℕ) (p q : TextLocation) → SavableLine text p K L → SavableLine text q K L
-    → byte_of p ≡ byte_of q
-once-line K L t p q = EarliestOnce.once-line L t p q

@@ -1,25 +1,5 @@
--- The definitions and laws of `places`, by module.
+-- The definitions of `places`, by module.
 pub mod Terms
-pub mod Counts
-pub mod Sharp
-pub mod Looks
-pub mod Looking
-pub mod Opening
-pub mod Telling
 pub mod Places
-pub mod Vacuous
 pub mod Savable
-pub mod Saving
-pub mod SavingLeaves
-pub mod SavingRuns
-pub mod SavingParts
-pub mod EarliestLift
-pub mod EarliestLine
-pub mod EarliestWidth
-pub mod EarliestRows
-pub mod EarliestArray
-pub mod EarliestData
-pub mod EarliestEnd
-pub mod EarliestOnce
 pub mod Earliest
-pub mod EarliestExamples

@@ -1,2 +1,2 @@
-// Where a refusal is told: claims and their proofs, in specs/. No code.
+// Where a refusal is told: definitions in specs/, claims and their proofs in proofs/. No code.
 #![tactic(auto)]

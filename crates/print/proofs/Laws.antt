@@ -14,8 +14,10 @@ use mathlib.Core.Path.{◌≡◌, refl, sym, ap, ◌∙◌}
 use mathlib.Core.List.{List, [], ◌∷◌, append-nil}
 use lib.ListN.{length, drop, set, get_or, drop_of_length-le}
 use lib.Seq.{drop-cons}
-use Rattle.print.specs.Output.{Output, output, put, puts, joined, puts-append}
-use Rattle.print.specs.Decimal.{decimal, signed, decimal-small, decimal-large}
+use Rattle.print.specs.Output.{Output, output, put, puts, joined}
+use Rattle.print.proofs.Output.{puts-append}
+use Rattle.print.specs.Decimal.{decimal, signed}
+use Rattle.print.proofs.Decimal.{decimal-small, decimal-large}
 
 module _ (b : ℕ) (s : List ℕ) (n : ℕ) where
   pub put_in : n < length s → output (set s n b) (n + 1) ≡ put b (output s n)

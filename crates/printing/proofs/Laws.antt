@@ -16,7 +16,8 @@ use Rattle.error.specs.Error.{told_refusal}
 use Rattle.header.specs.declared.Hotspot.{Hotspot}
 use Rattle.header.specs.declared.Hotspot.TheVariants.{Absent, At}
 use Rattle.header.specs.Answer.{hot_of}
-use Rattle.print.specs.Output.{Output, puts, joined, puts-append}
+use Rattle.print.specs.Output.{Output, puts, joined}
+use Rattle.print.proofs.Output.{puts-append}
 use Rattle.print.specs.Decimal.{signed}
 use Rattle.print.proofs.Laws.{joined_laws}
 use Rattle.printing.specs.Printed.{pair_text, hot_text, printed}

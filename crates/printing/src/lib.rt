@@ -1,5 +1,6 @@
 // What is printed of an answer: the lines of an accepted mask, or the line of a refusal, put into a lent buffer.
 #![tactic(auto)]
+
 ghost use Rattle.std.specs.Prelude.{◌≡◌, []};
 ghost use Rattle.text.specs.Outcome.{refused, unplaced};
 ghost use Rattle.error.specs.Error.{told_refusal};

@@ -10,11 +10,12 @@ use Rattle.text.specs.Ascii.{ascii}
 use Rattle.text.specs.Place.{start}
 use Rattle.header.specs.Header.{header}
 use Rattle.image.specs.Limited.{after_header, limited}
-use Rattle.print.specs.Output.{Output, output, puts, joined, puts-start}
+use Rattle.print.specs.Output.{Output, output, puts, joined}
+use Rattle.print.proofs.Output.{puts-start}
 use Rattle.print.specs.Decimal.{digits}
 use Rattle.printing.specs.Printed.{printed}
 use Rattle.listing.specs.Listing.{Listed, listed_of, listed, listing, Lists}
-use Rattle.listing.specs.Sizes.{listing-short, listed-long, listed-short, listed-beginning}
+use Rattle.listing.proofs.Sizes.{listing-short, listed-long, listed-short, listed-beginning}
 use Rattle.program.specs.Program.{Holds, Prints, ListsInput}
 
 pub taken-size : (n : ℕ) (text : List ℕ) → n ≤ length text → n ≡ length (take n text)

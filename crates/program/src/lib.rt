@@ -1,5 +1,6 @@
 // The program's one call: what came of an input is listed, with the limits of document 01. The sizes of its buffers stand in its type.
 #![tactic(auto)]
+
 ghost use Rattle.std.specs.Prelude.{min, ◌≡◌, length};
 ghost use Rattle.program.specs.Program.{ListsInput};
 

@@ -1,2 +1,2 @@
-// What is refused, with which number: claims and their proofs, in specs/. No code.
+// What is refused, with which number: definitions in specs/, claims and their proofs in proofs/. No code.
 #![tactic(auto)]

@@ -1,2 +1,3 @@
--- What the proofs of `report` share, by module.
+-- The theorems of `report` and what its proofs share, by module.
+pub mod Examples
 pub mod Laws

@@ -1,3 +1,2 @@
 -- The definitions of `report` and examples of them, by module.
 pub mod Report
-pub mod Examples

@@ -1,5 +1,6 @@
 // What a call tells, written as numbers in the order of include/xbm.h: the report of a header or a picture, and its hotspot; and a hotspot given so.
 #![tactic(auto)]
+
 ghost use Rattle.std.specs.Prelude.{◌≡◌};
 ghost use Rattle.header.specs.Answer.{hot_of};
 ghost use Rattle.report.specs.Report.{flag_of, coordinates, hot_given, report_of};

@@ -7,11 +7,11 @@ use lib.ListN.{length, take}
 use Rattle.image.specs.Limited.{within}
 use Rattle.print.specs.Output.{Output}
 use Rattle.listing.specs.Listing.{Listed, listed_within, listed}
-use Rattle.listing.specs.Sizes.{listed-beginning}
+use Rattle.listing.proofs.Sizes.{listed-beginning}
 use Rattle.program.specs.Program.{Holds}
 use Rattle.program.proofs.Laws.{taken-min}
 use Rattle.rewriting.specs.Rewriting.{rewriting, Rewrites}
-use Rattle.rewriting.specs.Sizes.{rewriting-inside, rewriting-beginning}
+use Rattle.rewriting.proofs.Sizes.{rewriting-inside, rewriting-beginning}
 use Rattle.rewriting.specs.Program.{Renews, RewritesInput}
 
 -- the buffers that a reading within the limits leaves are those of the listing

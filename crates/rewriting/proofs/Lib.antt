@@ -1,3 +1,4 @@
--- What the proofs of `rewriting` share, by module.
+-- The theorems of `rewriting` and what its proofs share, by module.
+pub mod Sizes
 pub mod Laws
 pub mod Input

@@ -1,4 +1,3 @@
--- The definitions and laws of `rewriting`, by module.
+-- The definitions of `rewriting`, by module.
 pub mod Rewriting
-pub mod Sizes
 pub mod Program

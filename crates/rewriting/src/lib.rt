@@ -1,5 +1,6 @@
 // Rewriting a mask: read from a text into lent buffers, and written anew into another.
 #![tactic(auto)]
+
 ghost use Rattle.std.specs.Prelude.{◌*◌, ◌≡◌, take};
 ghost use Rattle.header.specs.Answer.{hot_of};
 ghost use Rattle.print.specs.Output.{output};

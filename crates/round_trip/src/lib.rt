@@ -1,2 +1,2 @@
-// The writer and the reader together: claims and their proofs, in specs/. No code.
+// The writer and the reader together: definitions in specs/, claims and their proofs in proofs/. No code.
 #![tactic(auto)]

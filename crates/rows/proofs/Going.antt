@@ -6,7 +6,6 @@ use native.Mathlib.Decide.{dec_lt}
 use native.Mathlib.Nat.{suc-mul, mul_comm, mul-le-mul_right, div-zero, div-mul-le_self}
 use mir.Syntax.{w64}
 use mir.Val.{Fits}
-use mathlib.Core.Option.{none}
 use mathlib.Core.Bool.{Bool, true, false, true≢false}
 use mathlib.Core.List.{List, [], ◌∷◌, ◌++◌, append_assoc, append-nil}
 use lib.ListN.{length, get_or, take, drop}
@@ -14,18 +13,18 @@ use lib.Dec.{eqb, ltb}
 use borrow.Author.Tests.{eq-eqb, ne_eqb, lt-ltb, le-ltb}
 use Rattle.text.specs.declared.TextLocation.{TextLocation}
 use Rattle.text.specs.Rest.{Sound}
-use Rattle.text.specs.PlaceLaws.{reach-sound}
-use Rattle.text.specs.Reader.{Result, ok, stop, bad, Reader, ◌>>=◌, ◌>>◌, then}
+use Rattle.text.proofs.PlaceLaws.{reach-sound}
+use Rattle.text.specs.Reader.{Result, ok, stop, bad, Reader, ◌>>=◌, then}
 use Rattle.text.specs.Outcome.{outcome}
 use Rattle.text.specs.Leaf.{give, need}
 use Rattle.lexical.specs.declared.XbmPart.{XbmPart}
 use Rattle.lexical.specs.declared.Passed.{Passed}
 use Rattle.lexical.specs.declared.Passed.TheVariants.{To, Refused as Stopped}
-use Rattle.lexical.specs.Lexical.{number, told}
+use Rattle.lexical.specs.Lexical.{number, told, told_byte}
 use Rattle.lexical.specs.declared.ByteRead.{ByteRead}
 use Rattle.lexical.specs.declared.ByteRead.TheVariants.{Got, Refused as Wrong}
-use Rattle.lexical.specs.Lexical.{told_byte}
-use Rattle.body.specs.Data.{Log, item, items, trailer, log_of, row_bytes, item-local, item-grows}
+use Rattle.body.specs.Data.{Log, item, items, trailer, log_of, row_bytes}
+use Rattle.body.proofs.Data.{item-local, item-grows}
 use Rattle.rows.specs.declared.Rows.{Rows}
 use Rattle.rows.specs.declared.Rows.TheVariants.{Done, Refused, Mismatch}
 use Rattle.cells.specs.Cells.{cell, count}

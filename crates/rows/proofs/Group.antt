@@ -1,5 +1,5 @@
 -- `, 0xHH` read at once.
-use Prim.Native.Nat.{ℕ, ◌+◌, ◌-◌, ◌*◌, ◌≤◌, ◌<◌, ◌^◌}
+use Prim.Native.Nat.{ℕ, ◌+◌, ◌*◌, ◌≤◌, ◌<◌, ◌^◌}
 use native.Mathlib.Omega.{arith}
 use mir.Syntax.{w64}
 use mir.Val.{Fits}
@@ -13,9 +13,10 @@ use lib.Seq.{drop-cons}
 use lib.Dec.{eqb}
 use Rattle.text.specs.declared.TextLocation.{TextLocation}
 use Rattle.text.specs.Place.{byte_of, reaches_to, along_line, rest, after, past}
-use Rattle.text.specs.Rest.{Sound, after-rest}
-use Rattle.text.specs.PlaceLaws.{sound-rest, along-past}
-use Rattle.text.specs.Reader.{Result, ok, stop, ◌>>=◌, ◌>>◌}
+use Rattle.text.specs.Rest.{Sound}
+use Rattle.text.proofs.Rest.{after-rest}
+use Rattle.text.proofs.PlaceLaws.{sound-rest, along-past}
+use Rattle.text.specs.Reader.{Result, ok, stop, ◌>>=◌}
 use Rattle.text.specs.Leaf.{one, run, give}
 use Rattle.lexical.specs.Lexical.{is_loose, is_blank, skip, byte, is, fixed, number, told_byte}
 use Rattle.lexical.specs.declared.ByteRead.{ByteRead}

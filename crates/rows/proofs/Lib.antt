@@ -1,3 +1,4 @@
--- What the proofs of `rows` share, by module.
+-- The theorems of `rows` and what its proofs share, by module.
+pub mod RowsLaws
 pub mod Group
 pub mod Going

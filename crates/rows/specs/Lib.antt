@@ -1,3 +1,3 @@
--- The definitions and laws of `rows`, by module.
+-- The definitions of `rows`, by module.
 pub mod Rows
 pub mod Quick

@@ -2,11 +2,11 @@
 use Rattle.std.specs.Prelude.{ℕ, ◌/◌, ◌≡◌, List, Bool, true, false, length, eqb, ltb}
 use Rattle.std.proofs.Math.Option.{none}
 use Rattle.text.specs.declared.TextLocation.{TextLocation}
-use Rattle.text.specs.Reader.{Reader, ◌>>=◌, ◌>>◌, Local, bind-local}
+use Rattle.text.specs.Reader.{Reader, ◌>>=◌, ◌>>◌}
 use Rattle.text.specs.Leaf.{give, need}
 use Rattle.text.specs.Outcome.{Outcome, accepted, refused, unplaced, outcome}
-use Rattle.lexical.specs.Lexical.{number, locals}
-use Rattle.body.specs.Data.{item, items, trailer, log_of, item-local, items-local, trailer-local}
+use Rattle.lexical.specs.Lexical.{number}
+use Rattle.body.specs.Data.{item, items, trailer, log_of}
 use Rattle.cells.specs.Cells.{painted, count}
 use Rattle.rows.specs.declared.Rows.{Rows}
 use Rattle.rows.specs.declared.Rows.TheVariants.{Done, Refused, Mismatch}
@@ -25,15 +25,6 @@ ending false false first l = trailer >> mismatch
 -- a picture's data bytes, read with its trailer
 unfoldable pub whole : ℕ → ℕ → ℕ → Reader (List ℕ)
 whole w h n = items (count w h n) true >>= ending (eqb (n / w) h) (ltb (n / w) h) (eqb (count w h n) 0)
-
-pub ending-local : (e few first : Bool) (l : List ℕ) → Local (ending e few first l)
-ending-local true few first l = search (trailer-local, locals)
-ending-local false true first l = search (item-local, locals)
-ending-local false false first l = search (trailer-local, locals)
-
-pub whole-local : (w h n : ℕ) → Local (whole w h n)
-unfolding whole
-whole-local w h n = bind-local (items-local (count w h n) true) (ending-local (eqb (n / w) h) (ltb (n / w) h) (eqb (count w h n) 0))
 
 -- ---- what the code answers
 

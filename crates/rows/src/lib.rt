@@ -1,5 +1,6 @@
 // The rows of a picture: its data bytes, read into a lent buffer.
 #![tactic(auto)]
+
 ghost use Rattle.std.specs.Prelude.{◌≡◌, ◌+◌, ◌/◌, ◌≤◌, ◌<◌, length, false};
 ghost use Rattle.text.specs.Rest.{Sound};
 ghost use Rattle.lexical.specs.Lexical.{told_byte};

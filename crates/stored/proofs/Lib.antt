@@ -1,2 +1,3 @@
--- What the proofs of `stored` share, by module.
+-- The theorems of `stored` and what its proofs share, by module.
+pub mod Alike
 pub mod Laws

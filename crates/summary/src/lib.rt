@@ -1,5 +1,6 @@
 // What a call tells of a header or a picture: of the reader's answer, the number, place, sides, name and hotspot.
 #![tactic(auto)]
+
 ghost use Rattle.std.specs.Prelude.{◌≡◌, []};
 ghost use Rattle.header.specs.Answer.{told_header};
 ghost use Rattle.image.specs.Reading.{told_image};

@@ -1,3 +1,4 @@
--- What the proofs of `symbol` share, by module.
+-- The theorems of `symbol` and what its proofs share, by module.
+pub mod SymbolLaws
 pub mod Ends
 pub mod Laws

@@ -1,2 +1,2 @@
--- The definitions and laws of `symbol`, by module.
+-- The definitions of `symbol`, by module.
 pub mod Symbol

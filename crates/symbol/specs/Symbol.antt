@@ -3,9 +3,9 @@ use Rattle.std.specs.Prelude.{ℕ, ◌-◌, ◌≤◌, ◌≡◌, Bool, true, fa
 use Rattle.std.proofs.Math.Option.{Option, none, some}
 use Rattle.text.specs.Ascii.{ascii}
 use Rattle.text.specs.Place.{pick, start}
-use Rattle.text.specs.Reader.{Result, ok, stop, bad, end_of, Reader, ◌>>=◌, ◌>>◌, Local, Mild}
+use Rattle.text.specs.Reader.{Result, ok, stop, bad, end_of, Reader, ◌>>=◌, ◌>>◌}
 use Rattle.text.specs.Leaf.{want}
-use Rattle.lexical.specs.Lexical.{is_loose, fixed, gap, leading, locals, milds, gap-local, gap-mild, leading-local, leading-mild}
+use Rattle.lexical.specs.Lexical.{is_loose, fixed, gap, leading}
 use Rattle.lexical.specs.declared.Token.{Token}
 use Rattle.lexical.specs.Token.{token, span, overlay, told_token, size_of}
 
@@ -54,13 +54,3 @@ pub record Symboled (text lent later : List ℕ) (r : Token) : Type 0 where
   pub answer : told_token later r ≡ width_symbol (length lent) text start
   pub fits : size_of r ≤ length later
   pub symbol : later ≡ overlay (stored (length lent) text) lent
-
--- ---- laws
-
-pub opening-local : Local opening
-unfolding opening
-opening-local = search (locals, leading-local, gap-local) depth 20
-
-pub opening-mild : Mild opening
-unfolding opening
-opening-mild = search (milds, locals, leading-local, leading-mild, gap-local, gap-mild) depth 20

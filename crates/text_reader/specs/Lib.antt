@@ -1,4 +1,3 @@
--- The definitions and laws of `text_reader`, by module.
+-- The definitions of `text_reader`, by module.
 pub mod TextReader
 pub mod Foreign
-pub mod Examples

@@ -18,13 +18,14 @@ use Rattle.text.specs.Place.{pick}
 use Rattle.lexical.specs.Lexical.{is_blank, is_loose}
 use Rattle.body.specs.Data.{bytes_of}
 use Rattle.mask.specs.Fault.{fault}
-use Rattle.print.specs.Output.{Output, output, puts, puts-start}
+use Rattle.print.specs.Output.{Output, output, puts}
+use Rattle.print.proofs.Output.{puts-start}
 use Rattle.data_text.specs.Packed.{packed}
 use Rattle.data_text.specs.DataText.{data_length}
 use Rattle.header_text.specs.HeaderText.{head_text}
-use Rattle.header_text.specs.Size.{head-short}
+use Rattle.header_text.proofs.Size.{head-short}
 use Rattle.writer.specs.Written.{whole_text, written}
-use Rattle.writer.specs.Size.{written-length, name-short}
+use Rattle.writer.proofs.Size.{written-length, name-short}
 use Rattle.writer.specs.Writing.{breaks, unbroken, name_limit, good_name, wrong, Writing, stored, writing, told_writing}
 use Rattle.writer.specs.declared.XbmWritten.TheVariants.{Text, Refused}
 

@@ -1,5 +1,3 @@
--- The definitions and laws of `writer`, by module.
+-- The definitions of `writer`, by module.
 pub mod Written
 pub mod Writing
-pub mod Size
-pub mod Examples

@@ -1,5 +1,6 @@
 // Writes a mask as XBM text into a lent buffer.
 #![tactic(auto)]
+
 ghost use Rattle.std.specs.Prelude.{◌≡◌};
 ghost use Rattle.header.specs.Answer.{hot_of};
 ghost use Rattle.print.specs.Output.{output, puts};

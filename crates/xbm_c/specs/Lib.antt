@@ -1,8 +1,7 @@
--- The definitions and laws of `xbm_c`, by module.
+-- The definitions of `xbm_c`, by module.
 pub mod Told
 pub mod Next
 pub mod Write
-pub mod Examples
 pub mod Calls
 pub mod Room
 pub mod WriteExamples

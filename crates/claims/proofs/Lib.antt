@@ -1,0 +1,22 @@
+-- The theorems of `claims` and their lemmas, by module.
+pub mod Numbers
+pub mod Logs
+pub mod Painted
+pub mod Semicolon
+pub mod SymbolCut
+pub mod Parts
+pub mod Accepts
+pub mod Came
+pub mod Cuts
+pub mod Mismatch
+pub mod Headless
+pub mod AllCells
+pub mod Claims
+pub mod Vacuous
+pub mod Listings
+pub mod Steps
+pub mod Written
+pub mod Limits
+pub mod Prints
+pub mod Distinct
+pub mod Program

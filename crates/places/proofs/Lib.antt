@@ -1,0 +1,23 @@
+-- The theorems of `places` and their lemmas, by module.
+pub mod Counts
+pub mod Sharp
+pub mod Looks
+pub mod Looking
+pub mod Opening
+pub mod Telling
+pub mod Places
+pub mod Vacuous
+pub mod Saving
+pub mod SavingLeaves
+pub mod SavingRuns
+pub mod SavingParts
+pub mod EarliestLift
+pub mod EarliestLine
+pub mod EarliestWidth
+pub mod EarliestRows
+pub mod EarliestArray
+pub mod EarliestData
+pub mod EarliestEnd
+pub mod EarliestOnce
+pub mod Earliest
+pub mod EarliestExamples

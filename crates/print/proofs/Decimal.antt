@@ -1,0 +1,61 @@
+-- The theorems about what specs/Decimal.antt defines.
+use Rattle.std.specs.Prelude.{ℕ, zero, suc, ◌+◌, ◌-◌, ◌*◌, ◌/◌, ◌%◌, ◌^◌, ◌≤◌, ◌<◌, ◌≡◌, List, [], ◌∷◌, ◌++◌, ℤ, pos, negsuc, length}
+use Rattle.std.proofs.Common.{arith, pow-suc, sym, ap, ◌∙◌, length-append, lt-ltb, le-ltb}
+use Rattle.std.proofs.Math.Decide.{dec_lt}
+use Rattle.integer.specs.Decimal.{value_from}
+use Rattle.print.specs.Decimal.{digits, decimal, signed}
+
+-- ---- laws
+
+-- a step of the printer, of k + 1 digits
+digits-small : (k n : ℕ) → n < 10 → digits (suc k) n ≡ (48 + n) ∷ []
+unfolding digits
+digits-small k n h = rw (lt-ltb n 10 h)
+
+digits-large : (k n : ℕ) → 10 ≤ n → digits (suc k) n ≡ digits k (n / 10) ++ ((48 + n % 10) ∷ [])
+unfolding digits
+digits-large k n h = rw (le-ltb n 10 h)
+
+-- more digits allowed than needed change nothing
+digits_more : (k n : ℕ) → n < 10 ^ suc k → digits (suc k) n ≡ digits (suc (suc k)) n
+digits_more zero n h = digits-small zero n (omega arith) ∙ sym (digits-small 1 n (omega arith))
+digits_more (suc k) n h = go (dec_lt n 10) (λ l. digits_more k (n / 10) l)
+  where
+    go : Dec (n < 10) → (n / 10 < 10 ^ suc k → digits (suc k) (n / 10) ≡ digits (suc (suc k)) (n / 10)) → digits (suc (suc k)) n ≡ digits (suc (suc (suc k))) n
+    go (yes l) f = digits-small (suc k) n l ∙ sym (digits-small (suc (suc k)) n l)
+    go (no l) f =
+        digits-large (suc k) n (omega arith) ∙ ap (λ (d : List ℕ). d ++ ((48 + n % 10) ∷ [])) (f (omega (arith, pow-suc 10 (suc k)))) ∙ sym (digits-large (suc (suc k)) n (omega arith))
+
+pub decimal-small : (n : ℕ) → n < 10 → (48 + n) ∷ [] ≡ decimal n
+decimal-small n h = sym (digits-small 19 n h)
+
+pub decimal-large : (n : ℕ) → 10 ≤ n → n < 2 ^ 64 → decimal (n / 10) ++ ((48 + n % 10) ∷ []) ≡ decimal n
+decimal-large n h l = ap (λ (d : List ℕ). d ++ ((48 + n % 10) ∷ [])) (sym (digits_more 18 (n / 10) (omega arith))) ∙ sym (digits-large 19 n h)
+
+value-last : (x : ℕ) (w : List ℕ) (d : ℕ) → value_from x (w ++ ((48 + d) ∷ [])) ≡ value_from x w * 10 + d
+value-last x [] d = omega arith
+value-last x (b ∷ w) d = value-last (x * 10 + (b - 48)) w d
+
+-- the digits of a number have its value
+pub digits_value : (k n : ℕ) → n < 10 ^ k → value_from 0 (digits k n) ≡ n
+unfolding digits
+digits_value zero n h = omega arith
+digits_value (suc k) n h = go (dec_lt n 10) (λ l. digits_value k (n / 10) l)
+  where
+    go : Dec (n < 10) → (n / 10 < 10 ^ k → value_from 0 (digits k (n / 10)) ≡ n / 10) → value_from 0 (digits (suc k) n) ≡ n
+    go (yes l) f = rw (digits-small k n l) (omega arith)
+    go (no l) f = rw (digits-large k n (omega arith)) (value-last 0 (digits k (n / 10)) (n % 10) ∙ omega (arith, f (omega (arith, pow-suc 10 k))))
+
+-- and are few
+pub digits-short : (k n : ℕ) → length (digits k n) ≤ k
+unfolding digits
+digits-short zero n = omega arith
+digits-short (suc k) n = go (dec_lt n 10) (digits-short k (n / 10))
+  where
+    go : Dec (n < 10) → length (digits k (n / 10)) ≤ k → length (digits (suc k) n) ≤ suc k
+    go (yes l) f = rw (digits-small k n l) (omega arith)
+    go (no l) f = rw (digits-large k n (omega arith)) (omega (arith, length-append (digits k (n / 10)) ((48 + n % 10) ∷ [])))
+
+pub signed-short : (z : ℤ) → length (signed z) ≤ 21
+signed-short (pos n) = omega (arith, digits-short 20 n)
+signed-short (negsuc n) = omega (arith, digits-short 20 (suc n))
