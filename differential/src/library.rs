@@ -15,8 +15,7 @@ const CRATE: &str = "xbm_c";
 const FOLDERS: [&str; 3] = ["src", "specs", "proofs"];
 
 /// Said where there is no library.
-const MISSING: &str =
-    "built without the proved reader: run `rt lib` in crates/xbm_c, \
+const MISSING: &str = "built without the proved reader: run `rt lib` in crates/xbm_c, \
      or set XBM_LIB_DIR to the folder of libxbm_c.a, and build again";
 
 /// The library's calls, or why they tell nothing of the crates.
@@ -128,7 +127,8 @@ mod tests {
             for source in SOURCES {
                 let path = checkout.root.join(source);
                 fs::create_dir_all(path.parent().unwrap()).unwrap();
-                let list = "# crates\ntext:\nimage: text io\nclaims: image\nxbm_c staticlib: image\n";
+                let list =
+                    "# crates\ntext:\nimage: text io\nclaims: image\nxbm_c staticlib: image\n";
                 fs::write(path, if source == "crates.txt" { list } else { "" }).unwrap();
             }
             checkout.touch("libxbm_c.a", 100);
