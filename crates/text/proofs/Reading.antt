@@ -2,9 +2,8 @@
 -- and its conclusion is `result ≡ definition`, so `search` puts them together.
 use Rattle.std.proofs.Common.{◌≡◌, ℕ, ◌*◌, ◌^◌, ◌<◌, List, length, ap, ◌∙◌, eq-eqb, ne_eqb}
 use mathlib.Core.Option.{Option, none, some}
+use Rattle.std.specs.Prelude.{Option as Taken, Some, None}
 use Rattle.text.specs.declared.TextLocation.{TextLocation}
-use Rattle.text.specs.declared.Took.{Took}
-use Rattle.text.specs.declared.Took.TheVariants.{Next, End}
 use Rattle.text.specs.Place.{past_byte, took_at}
 use Rattle.text.specs.Reader.{Result, ok, stop, bad, Reader, ◌>>=◌}
 use Rattle.text.specs.Leaf.{one, run, Move, go_on, stay, halt, give, fork}
@@ -30,37 +29,37 @@ give-ok a t i e = rw e
 
 -- a byte
 module _ {A : Type 0} (c : ℕ) (g : ℕ → Option A) (t : List ℕ) (i : TextLocation) where
-  pub one_ok : {r : Took} {b : ℕ} {q : TextLocation} {a : A} → r ≡ took_at t i → r ≡ Next b q → g b ≡ some a → ok a q ≡ one c g t i
+  pub one_ok : {r : Taken (ℕ × TextLocation)} {b : ℕ} {q : TextLocation} {a : A} → r ≡ took_at t i → r ≡ Some (b, q) → g b ≡ some a → ok a q ≡ one c g t i
   unfolding one
   one_ok e m h = rw (next-rest t i e m, h, ← next-after t i e m)
 
   -- the same with the place made of the byte
-  pub one-past : {r : Took} {b : ℕ} {q p : TextLocation} {a : A} → length t * 1 < 2 ^ 63 → r ≡ took_at t i → r ≡ Next b q → p ≡ past_byte i b → g b ≡ some a → ok a p ≡ one c g t i
+  pub one-past : {r : Taken (ℕ × TextLocation)} {b : ℕ} {q p : TextLocation} {a : A} → length t * 1 < 2 ^ 63 → r ≡ took_at t i → r ≡ Some (b, q) → p ≡ past_byte i b → g b ≡ some a → ok a p ≡ one c g t i
   one-past {p = p} {a = a} l e m k h = ap (ok a) (k ∙ next_past t i l e m) ∙ one_ok e m h
 
-  pub one-stop : {r : Took} {b : ℕ} {q : TextLocation} → r ≡ took_at t i → r ≡ Next b q → g b ≡ none → stop c q ≡ one c g t i
+  pub one-stop : {r : Taken (ℕ × TextLocation)} {b : ℕ} {q : TextLocation} → r ≡ took_at t i → r ≡ Some (b, q) → g b ≡ none → stop c q ≡ one c g t i
   unfolding one
   one-stop e m h = rw (next-rest t i e m, h, ← next-after t i e m)
 
-  pub one_end : {r : Took} → r ≡ took_at t i → r ≡ End → stop c i ≡ one c g t i
+  pub one_end : {r : Taken (ℕ × TextLocation)} → r ≡ took_at t i → r ≡ None → stop c i ≡ one c g t i
   unfolding one
   one_end e m = rw (end_rest t i e m)
 
 -- a look at the next byte
-module _ {A : Type 0} (c x : ℕ) (p : Reader A) (y : ℕ) (q : Reader A) (t : List ℕ) (i : TextLocation) {r : Took} {z : Result A} (e : r ≡ took_at t i) where
-  pub fork-first : {b : ℕ} {n : TextLocation} → r ≡ Next b n → b ≡ x → z ≡ p t i → z ≡ fork c x p y q t i
+module _ {A : Type 0} (c x : ℕ) (p : Reader A) (y : ℕ) (q : Reader A) (t : List ℕ) (i : TextLocation) {r : Taken (ℕ × TextLocation)} {z : Result A} (e : r ≡ took_at t i) where
+  pub fork-first : {b : ℕ} {n : TextLocation} → r ≡ Some (b, n) → b ≡ x → z ≡ p t i → z ≡ fork c x p y q t i
   unfolding fork
   fork-first {b} m h k = rw (next-rest t i e m, eq-eqb b x h) k
 
-  pub fork-second : {b : ℕ} {n : TextLocation} → r ≡ Next b n → (b ≡ x → ⊥) → b ≡ y → z ≡ q t i → z ≡ fork c x p y q t i
+  pub fork-second : {b : ℕ} {n : TextLocation} → r ≡ Some (b, n) → (b ≡ x → ⊥) → b ≡ y → z ≡ q t i → z ≡ fork c x p y q t i
   unfolding fork
   fork-second {b} m g h k = rw (next-rest t i e m, ne_eqb b x g, eq-eqb b y h) k
 
-  pub fork-neither : {b : ℕ} {n : TextLocation} → r ≡ Next b n → (b ≡ x → ⊥) → (b ≡ y → ⊥) → z ≡ stop c n → z ≡ fork c x p y q t i
+  pub fork-neither : {b : ℕ} {n : TextLocation} → r ≡ Some (b, n) → (b ≡ x → ⊥) → (b ≡ y → ⊥) → z ≡ stop c n → z ≡ fork c x p y q t i
   unfolding fork
   fork-neither {b} m g h k = rw (next-rest t i e m, ne_eqb b x g, ne_eqb b y h, ← next-after t i e m) k
 
-  pub fork-end : r ≡ End → z ≡ stop c i → z ≡ fork c x p y q t i
+  pub fork-end : r ≡ None → z ≡ stop c i → z ≡ fork c x p y q t i
   unfolding fork
   fork-end m k = rw (end_rest t i e m) k
 
@@ -68,23 +67,23 @@ pub ruleset fork_laws = (fork-first, fork-second, fork-neither, fork-end)
 
 -- a run; z is what the whole run gives
 module _ {S A : Type 0} (c : ℕ) (step : S → ℕ → Move S A) (fin : S → Option A) (s : S) (t : List ℕ) (i : TextLocation) {z : Result A} where
-  pub run_on : {r : Took} {b : ℕ} {q : TextLocation} {s' : S} → r ≡ took_at t i → r ≡ Next b q → step s b ≡ go_on s' → run c step fin s t i ≡ z → run c step fin s' t q ≡ z
+  pub run_on : {r : Taken (ℕ × TextLocation)} {b : ℕ} {q : TextLocation} {s' : S} → r ≡ took_at t i → r ≡ Some (b, q) → step s b ≡ go_on s' → run c step fin s t i ≡ z → run c step fin s' t q ≡ z
   unfolding run
   run_on e m h k = rw (next-rest t i e m, h, ← next-after t i e m) at k
 
-  pub run-stay : {r : Took} {b : ℕ} {q : TextLocation} {a : A} → r ≡ took_at t i → r ≡ Next b q → step s b ≡ stay a → run c step fin s t i ≡ z → ok a i ≡ z
+  pub run-stay : {r : Taken (ℕ × TextLocation)} {b : ℕ} {q : TextLocation} {a : A} → r ≡ took_at t i → r ≡ Some (b, q) → step s b ≡ stay a → run c step fin s t i ≡ z → ok a i ≡ z
   unfolding run
   run-stay e m h k = rw (next-rest t i e m, h) at k
 
-  pub run-halt : {r : Took} {b : ℕ} {q : TextLocation} → r ≡ took_at t i → r ≡ Next b q → step s b ≡ halt → run c step fin s t i ≡ z → stop c i ≡ z
+  pub run-halt : {r : Taken (ℕ × TextLocation)} {b : ℕ} {q : TextLocation} → r ≡ took_at t i → r ≡ Some (b, q) → step s b ≡ halt → run c step fin s t i ≡ z → stop c i ≡ z
   unfolding run
   run-halt e m h k = rw (next-rest t i e m, h) at k
 
-  pub run_end : {r : Took} {a : A} → r ≡ took_at t i → r ≡ End → fin s ≡ some a → run c step fin s t i ≡ z → ok a i ≡ z
+  pub run_end : {r : Taken (ℕ × TextLocation)} {a : A} → r ≡ took_at t i → r ≡ None → fin s ≡ some a → run c step fin s t i ≡ z → ok a i ≡ z
   unfolding run
   run_end e m h k = rw (end_rest t i e m, h) at k
 
-  pub run-lacks : {r : Took} → r ≡ took_at t i → r ≡ End → fin s ≡ none → run c step fin s t i ≡ z → stop c i ≡ z
+  pub run-lacks : {r : Taken (ℕ × TextLocation)} → r ≡ took_at t i → r ≡ None → fin s ≡ none → run c step fin s t i ≡ z → stop c i ≡ z
   unfolding run
   run-lacks e m h k = rw (end_rest t i e m, h) at k
 

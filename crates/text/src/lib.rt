@@ -8,46 +8,32 @@ use std::num::wrapping_add_u64;
 
 // How many bytes were taken.
 #[repr(C)]
-#[derive(Clone, Copy)]
+#[derive(Clone, Copy, Debug, PartialEq, Eq)]
 pub struct Byte(pub u64);
 
 // The line, from 1.
 #[repr(C)]
-#[derive(Clone, Copy)]
+#[derive(Clone, Copy, Debug, PartialEq, Eq)]
 pub struct Line(pub u64);
 
 // The column, from 0.
 #[repr(C)]
-#[derive(Clone, Copy)]
+#[derive(Clone, Copy, Debug, PartialEq, Eq)]
 pub struct Column(pub u64);
 
 // How many bytes were taken when the line started.
 #[repr(C)]
-#[derive(Clone, Copy)]
+#[derive(Clone, Copy, Debug, PartialEq, Eq)]
 pub struct Start(pub u64);
 
 // Location of a byte in the text.
 #[repr(C)]
-#[derive(Clone, Copy)]
+#[derive(Clone, Copy, Debug, PartialEq, Eq)]
 pub struct TextLocation {
     pub byte: Byte,
     pub line: Line,
     pub column: Column,
     pub start: Start,
-}
-
-// What taking a byte gives: the byte and the place after it, or nothing at the text's end.
-#[derive(Clone, Copy)]
-pub enum Took {
-    Next(u8, TextLocation),
-    End,
-}
-
-// What stands at a place.
-#[derive(Clone, Copy)]
-pub enum Peeked {
-    Found(u8),
-    Nothing,
 }
 
 // A place at the start of a line.
@@ -151,32 +137,29 @@ pub fn past_byte(place: TextLocation, b: u8) -> TextLocation
     along(place, 1)
 }
 
-// The next byte at a place, and the place after it. A foreign place is as the end. The newline is tested here again and not by `past_byte`:
-// so the test stays a branch, and is gone where the byte is known.
-pub fn take(text: &[u8], place: TextLocation) -> Took
+// The next byte at a place, and the place after it; none at the end. A foreign place is as the end. The newline is tested here again
+// and not by `past_byte`: so the test stays a branch, and is gone where the byte is known.
+pub fn take(text: &[u8], place: TextLocation) -> Option<(u8, TextLocation)>
     ensures { result ≡ took_at text.now place }
 {
     let at = place.byte.0;
     if at >= text.len() as u64 {
-        return Took::End;
+        return None;
     }
     if is_sound(place) {
         let i = at as usize;
         let b = text[i];
         if b == b'\n' {
-            return Took::Next(b, past_line(place, 0));
+            return Some((b, past_line(place, 0)));
         }
-        return Took::Next(b, along(place, 1));
+        return Some((b, along(place, 1)));
     }
-    Took::End
+    None
 }
 
 // The same, with nothing taken.
-pub fn peek(text: &[u8], place: TextLocation) -> Peeked
+pub fn peek(text: &[u8], place: TextLocation) -> Option<u8>
     ensures { result ≡ peeked_at text.now place }
 {
-    match take(text, place) {
-        Took::Next(b, _) => Peeked::Found(b),
-        Took::End => Peeked::Nothing,
-    }
+    take(text, place).map(|(b, _)| b)
 }
