@@ -1,5 +1,5 @@
 -- The theorems about what specs/Token.antt defines.
-use Rattle.std.specs.Prelude.{ℕ, ◌-◌, Bool, []}
+use Rattle.std.specs.Prelude.{ℕ, Bool, []}
 use Rattle.std.proofs.Math.Option.{some}
 use Rattle.text.specs.Reader.{Local, Mild}
 use Rattle.text.proofs.Leaf.{run-local, run-mild}

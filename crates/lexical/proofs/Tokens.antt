@@ -10,19 +10,17 @@ use mathlib.Core.List.{List, ◌++◌, append_assoc}
 use mathlib.Core.Bool.{Bool, true, false}
 use lib.ListN.{length, take, drop, set, length-set, take-append-drop}
 use lib.Seq.{take-suc-set, drop-set-lt, drop-drop, length-take-le, take_at}
+use Rattle.std.specs.Prelude.{Option as Taken, Some, None, Result as Answer, Ok, Err}
 use Rattle.text.specs.declared.TextLocation.{TextLocation}
-use Rattle.text.specs.declared.Took.{Took}
-use Rattle.text.specs.declared.Took.TheVariants.{Next, End}
 use Rattle.text.specs.Place.{rest, after, byte_of, took_at}
 use Rattle.text.specs.Reader.{Result, stop, end_of, Reader, ◌>>=◌}
 use Rattle.text.specs.Leaf.{run}
 use Rattle.text.proofs.Laws.{next-rest, next-after}
 use Rattle.text.proofs.Reading.{bind_ok, bind-stop, run_on, run-stay, run-halt, run_end}
+use Rattle.lexical.specs.declared.ParseError.{ParseError}
 use Rattle.lexical.specs.declared.XbmPart.{XbmPart}
 use Rattle.lexical.specs.Lexical.{number}
 use Rattle.lexical.specs.Token.{up_to, token, told_token, size_of, span, Tokened}
-use Rattle.lexical.specs.declared.Token.{Token}
-use Rattle.lexical.specs.declared.Token.TheVariants.{Read, Refused}
 
 -- n bytes from p₀ on stand at buf's start, p is the place after them, and the token goes on from there
 pub record Storing (ends : ℕ → Bool) (c : ℕ) (s buf₀ : List ℕ) (p₀ : TextLocation) (buf : List ℕ) (p : TextLocation) (n : ℕ) : Type 0 where
@@ -42,7 +40,7 @@ module _ (ends : ℕ → Bool) (c : ℕ) (s buf₀ : List ℕ) (p₀ : TextLocat
     length_taken : Storing ends c s buf₀ p₀ buf p n → length (take n buf) ≡ n
     length_taken i = length-take-le n buf (omega (arith, i.room, i.size))
 
-    pub storing-more : {r : Took} {b : ℕ} {q : TextLocation} {t : Bool} → r ≡ took_at s p → r ≡ Next b q → t ≡ ends b → t ≡ false
+    pub storing-more : {r : Taken (ℕ × TextLocation)} {b : ℕ} {q : TextLocation} {t : Bool} → r ≡ took_at s p → r ≡ Some (b, q) → t ≡ ends b → t ≡ false
         → n < length buf → Storing ends c s buf₀ p₀ buf p n → Storing ends c s buf₀ p₀ (set buf n b) q (n + 1)
     unfolding after
     storing-more {b = b} {q = q} e m h k l i =
@@ -59,7 +57,7 @@ module _ (ends : ℕ → Bool) (c : ℕ) (s buf₀ : List ℕ) (p₀ : TextLocat
         }
 
     -- the answer r ends the token at p
-    ended : (r : Token) → Storing ends c s buf₀ p₀ buf p n → told_token buf r ≡ token ends c (length buf₀) s p₀ → end_of (told_token buf r) ≡ p → size_of r ≤ n
+    ended : (r : Answer (ℕ × TextLocation) ParseError) → Storing ends c s buf₀ p₀ buf p n → told_token buf r ≡ token ends c (length buf₀) s p₀ → end_of (told_token buf r) ≡ p → size_of r ≤ n
         → Tokened ends c s p₀ buf₀ buf r
     unfolding span
     ended r i a e z =
@@ -73,21 +71,21 @@ module _ (ends : ℕ → Bool) (c : ℕ) (s buf₀ : List ℕ) (p₀ : TextLocat
           stored = rw (← a, e, d, i.whole, take_at (take n buf) (rest s p) n l, l, ← i.kept, take-append-drop);
         }
 
-    module _ (i : Storing ends c s buf₀ p₀ buf p n) {r : Took} (e : r ≡ took_at s p) where
-      pub storing-stop : {b : ℕ} {q : TextLocation} {t : Bool} → r ≡ Next b q → t ≡ ends b → t ≡ true → Tokened ends c s p₀ buf₀ buf (Read n p)
+    module _ (i : Storing ends c s buf₀ p₀ buf p n) {r : Taken (ℕ × TextLocation)} (e : r ≡ took_at s p) where
+      pub storing-stop : {b : ℕ} {q : TextLocation} {t : Bool} → r ≡ Some (b, q) → t ≡ ends b → t ≡ true → Tokened ends c s p₀ buf₀ buf (Ok (n, p))
       storing-stop m h k =
-          ended (Read n p) i (run-stay c (up_to ends (length buf₀)) (λ w. some w) (take n buf) s p e m (rw (← h, k)) i.left) refl (omega arith)
+          ended (Ok (n, p)) i (run-stay c (up_to ends (length buf₀)) (λ w. some w) (take n buf) s p e m (rw (← h, k)) i.left) refl (omega arith)
 
-      pub storing-end : r ≡ End → Tokened ends c s p₀ buf₀ buf (Read n p)
-      storing-end m = ended (Read n p) i (run_end c (up_to ends (length buf₀)) (λ w. some w) (take n buf) s p e m refl i.left) refl (omega arith)
+      pub storing-end : r ≡ None → Tokened ends c s p₀ buf₀ buf (Ok (n, p))
+      storing-end m = ended (Ok (n, p)) i (run_end c (up_to ends (length buf₀)) (λ w. some w) (take n buf) s p e m refl i.left) refl (omega arith)
 
-pub storing-full : (ends : ℕ → Bool) (part : XbmPart) (s buf₀ : List ℕ) (p₀ : TextLocation) (buf : List ℕ) (p : TextLocation) (n : ℕ) {r : Took} {b : ℕ} {q : TextLocation} {t : Bool}
-    → Storing ends (number part) s buf₀ p₀ buf p n → r ≡ took_at s p → r ≡ Next b q → t ≡ ends b → t ≡ false → length buf ≤ n
-    → Tokened ends (number part) s p₀ buf₀ buf (Refused part p)
+pub storing-full : (ends : ℕ → Bool) (part : XbmPart) (s buf₀ : List ℕ) (p₀ : TextLocation) (buf : List ℕ) (p : TextLocation) (n : ℕ) {r : Taken (ℕ × TextLocation)} {b : ℕ} {q : TextLocation} {t : Bool}
+    → Storing ends (number part) s buf₀ p₀ buf p n → r ≡ took_at s p → r ≡ Some (b, q) → t ≡ ends b → t ≡ false → length buf ≤ n
+    → Tokened ends (number part) s p₀ buf₀ buf (Err (record { part = part; place = p }))
 storing-full ends part s buf₀ p₀ buf p n i e m h k l =
     let hs : length buf ≡ length buf₀ = i.size in
     let g : ltb (length (take n buf)) (length buf₀) ≡ false = le-ltb (length (take n buf)) (length buf₀) (omega (arith, length_taken ends (number part) s buf₀ p₀ buf p n i)) in
-    ended ends (number part) s buf₀ p₀ buf p n (Refused part p) i
+    ended ends (number part) s buf₀ p₀ buf p n (Err (record { part = part; place = p })) i
     (run-halt (number part) (up_to ends (length buf₀)) (λ w. some w) (take n buf) s p e m (rw (← h, k, g)) i.left)
     refl
     (omega arith)
@@ -95,18 +93,18 @@ storing-full ends part s buf₀ p₀ buf p n i e m h k l =
 pub ruleset storing_laws = (storing-more, storing-stop, storing-end, storing-full)
 
 -- a token's answer that is matched on
-module _ {ends : ℕ → Bool} (c : ℕ) {s : List ℕ} {p : TextLocation} {buf later : List ℕ} {m : Token} (e : Tokened ends c s p buf later m) where
-  pub token-fits : {n : ℕ} {q : TextLocation} → m ≡ Read n q → n ≤ length later
+module _ {ends : ℕ → Bool} (c : ℕ) {s : List ℕ} {p : TextLocation} {buf later : List ℕ} {m : Answer (ℕ × TextLocation) ParseError} (e : Tokened ends c s p buf later m) where
+  pub token-fits : {n : ℕ} {q : TextLocation} → m ≡ Ok (n, q) → n ≤ length later
   token-fits h = rw h at e.fits
 
-  pub token-size : {n : ℕ} {q : TextLocation} → m ≡ Read n q → n ≡ length (take n later)
+  pub token-size : {n : ℕ} {q : TextLocation} → m ≡ Ok (n, q) → n ≡ length (take n later)
   token-size {n} h = sym (length-take-le n later (token-fits h))
 
   module _ {B : Type 0} (lim : ℕ) (f : List ℕ → Reader B) {z : Result B} (size : length buf ≡ lim) where
-    pub pass-read : {n : ℕ} {q : TextLocation} → m ≡ Read n q → z ≡ f (take n later) s q → z ≡ (token ends c lim >>= f) s p
+    pub pass-read : {n : ℕ} {q : TextLocation} → m ≡ Ok (n, q) → z ≡ f (take n later) s q → z ≡ (token ends c lim >>= f) s p
     pass-read h k = bind_ok (token ends c lim) f s p (rw (h, size) at e.answer) k
 
-    pub pass-long : {part : XbmPart} {q : TextLocation} → m ≡ Refused part q → z ≡ stop (number part) q → z ≡ (token ends c lim >>= f) s p
+    pub pass-long : {x : ParseError} → m ≡ Err x → z ≡ stop (number x.part) x.place → z ≡ (token ends c lim >>= f) s p
     pass-long h k = bind-stop (token ends c lim) f s p (rw (h, size) at e.answer) k
 
 pub ruleset token_laws = (token-fits, token-size, pass-read, pass-long)

@@ -1,15 +1,13 @@
 -- The lexical rules: readers put together from the leaves.
-use Rattle.std.specs.Prelude.{ℕ, List, [], ◌∷◌, Bool, true, false, eqb}
+use Rattle.std.specs.Prelude.{ℕ, List, [], ◌∷◌, Bool, true, false, eqb, Result as Answer, Ok, Err}
 use Rattle.std.proofs.Math.Option.{Option, none, some}
 use Rattle.text.specs.Place.{pick}
-use Rattle.text.specs.Reader.{Result, ok, stop, then, Reader, ◌>>◌}
+use Rattle.text.specs.Reader.{Result, ok, stop, Reader, ◌>>◌}
 use Rattle.text.specs.Leaf.{give, one, run, Move, go_on, stay}
+use Rattle.text.specs.declared.TextLocation.{TextLocation}
+use Rattle.lexical.specs.declared.ParseError.{ParseError}
 use Rattle.lexical.specs.declared.XbmPart.{XbmPart}
 use Rattle.lexical.specs.declared.XbmPart.TheVariants.{Width, Height, HotspotX, HotspotY, Array, Data, ArrayEnd, Trailing}
-use Rattle.lexical.specs.declared.Passed.{Passed}
-use Rattle.lexical.specs.declared.Passed.TheVariants.{To, Refused}
-use Rattle.lexical.specs.declared.ByteRead.{ByteRead}
-use Rattle.lexical.specs.declared.ByteRead.TheVariants.{Got, Refused as NotGot}
 
 -- the number of a refusal, by document 01
 abbrev pub number : XbmPart → ℕ
@@ -23,17 +21,13 @@ number ArrayEnd = 7
 number Trailing = 8
 
 -- answers as results
-abbrev pub told : Passed → Result (Unit {0})
-told (To p) = ok tt p
-told (Refused part p) = stop (number part) p
+abbrev pub told : Answer TextLocation ParseError → Result (Unit {0})
+told (Ok p) = ok tt p
+told (Err e) = stop (number e.part) e.place
 
-abbrev pub told_byte : ByteRead → Result ℕ
-told_byte (Got v p) = ok v p
-told_byte (NotGot part p) = stop (number part) p
-
--- reads on from where an answer passed to
-unfoldable pub onto : {A : Type 0} → Passed → Reader A → List ℕ → Result A
-onto m p t = then (told m) (λ a e. p t e)
+abbrev pub told_byte : Answer (ℕ × TextLocation) ParseError → Result ℕ
+told_byte (Ok r) = ok r.0 r.1
+told_byte (Err e) = stop (number e.part) e.place
 
 -- a blank: space or tab
 unfoldable pub is_blank : ℕ → Bool
@@ -42,11 +36,6 @@ is_blank b = pick (eqb b 32) true (eqb b 9)
 -- loose space: space, tab or newline
 unfoldable pub is_loose : ℕ → Bool
 is_loose b = pick (is_blank b) true (eqb b 10)
-
--- the class of a gap: blanks, or loose space
-abbrev pub space_of : Bool → ℕ → Bool
-space_of true = is_loose
-space_of false = is_blank
 
 abbrev pub when : Bool → Option (Unit {0})
 when t = pick t (some tt) none

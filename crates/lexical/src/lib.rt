@@ -1,109 +1,89 @@
 // The lexical readers: each takes bytes at a place, and answers what it read and the place after it, or a refusal with its place.
 #![tactic(auto)]
 
-ghost use Rattle.std.specs.Prelude.{◌≡◌};
+ghost use Rattle.std.specs.Prelude.{◌≡◌, ℕ, Bool};
 ghost use Rattle.text.specs.Reader.{ok};
-ghost use Rattle.lexical.specs.Lexical.{is_blank, is_loose, space_of, number, told, onto, told_byte, any_byte, skip, gap, fixed, line_end};
+ghost use Rattle.lexical.specs.Lexical.{is_blank, is_loose, number, told, told_byte, any_byte, byte, skip, gap, fixed, line_end};
+ghost use Rattle.lexical.specs.Class.{Decides};
 ghost use Rattle.lexical.specs.Token.{Tokened};
 
-use text::{TextLocation, Took, past_byte, take};
+use text::{TextLocation, past_byte, take};
 
-// The part of the file in which a rule is broken.
-#[derive(Clone, Copy)]
+// The part of the file in which a rule is broken, by its number.
+#[derive(Clone, Copy, Debug, PartialEq, Eq)]
 pub enum XbmPart {
-    Width,
-    Height,
-    HotspotX,
-    HotspotY,
-    Array,
-    Data,
-    ArrayEnd,
-    Trailing,
+    Width = 1,
+    Height = 2,
+    HotspotX = 3,
+    HotspotY = 4,
+    Array = 5,
+    Data = 6,
+    ArrayEnd = 7,
+    Trailing = 8,
 }
 
-// The place after what was read, or the refusal's.
-#[derive(Clone, Copy)]
-pub enum Passed {
-    To(TextLocation),
-    Refused(XbmPart, TextLocation),
-}
-
-// A byte, or a number below 256, and the place after it; or the refusal's place.
-#[derive(Clone, Copy)]
-pub enum ByteRead {
-    Got(u8, TextLocation),
-    Refused(XbmPart, TextLocation),
-}
-
-// How many bytes were stored, and the place after them; or the refusal's place.
-#[derive(Clone, Copy)]
-pub enum Token {
-    Read(usize, TextLocation),
-    Refused(XbmPart, TextLocation),
+// A rule of a part is broken at a place.
+#[derive(Clone, Copy, Debug, PartialEq, Eq)]
+pub struct ParseError {
+    pub part: XbmPart,
+    pub place: TextLocation,
 }
 
 // The number of a refusal in a part.
 pub fn part_number(part: XbmPart) -> u32
     ensures { result ≡ number part }
 {
-    match part {
-        XbmPart::Width => 1,
-        XbmPart::Height => 2,
-        XbmPart::HotspotX => 3,
-        XbmPart::HotspotY => 4,
-        XbmPart::Array => 5,
-        XbmPart::Data => 6,
-        XbmPart::ArrayEnd => 7,
-        XbmPart::Trailing => 8,
-    }
+    part as u32
 }
 
 // Space or tab.
 pub fn is_blank(b: u8) -> bool
     ensures { result ≡ is_blank b }
 {
-    if b == b' ' {
-        return true;
-    }
-    b == b'\t'
+    b == b' ' || b == b'\t'
 }
 
 // Space, tab or newline.
 pub fn is_loose(b: u8) -> bool
     ensures { result ≡ is_loose b }
 {
-    if is_blank(b) {
-        return true;
-    }
-    b == b'\n'
+    is_blank(b) || b == b'\n'
 }
 
-// Blanks, or loose space.
-fn is_space(b: u8, loose: bool) -> bool
-    ensures { result ≡ space_of loose b }
-{
-    if loose {
-        return is_loose(b);
-    }
-    is_blank(b)
-}
-
-// Blanks or loose space, also none.
-fn skip_space(text: &[u8], place: TextLocation, loose: bool) -> TextLocation
-    ensures { ok tt result ≡ skip (space_of loose) text.now place }
+// Past the bytes of a class, also none.
+fn skip_while<F: Fn(u8) -> bool>(text: &[u8], place: TextLocation, class: F) -> TextLocation
+    requires { F.IsAlwaysCallable class }
+    ensures { (g : ℕ → Bool) → Decides (F.post class) g → ok tt result ≡ skip g text.now place }
 {
     let mut at = place;
-    loop {
-        match take(text, at) {
-            Took::Next(b, next) => {
-                if is_space(b, loose) {
-                    at = next;
-                } else {
-                    return at;
-                }
-            }
-            Took::End => return at,
+    while let Some((b, next)) = take(text, at) {
+        if !class(b) {
+            return at;
         }
+        at = next;
+    }
+    at
+}
+
+// One byte of a class. The place past it is made of the byte, so that no newline is looked for where it is none.
+pub fn read_byte_of<F: Fn(u8) -> bool>(
+    text: &[u8],
+    place: TextLocation,
+    class: F,
+    part: XbmPart,
+) -> Result<TextLocation, ParseError>
+    requires { F.IsAlwaysCallable class }
+    ensures { (g : ℕ → Bool) → Decides (F.post class) g → told result ≡ byte (number part) g text.now place }
+{
+    match take(text, place) {
+        Some((b, next)) => {
+            if class(b) {
+                Ok(past_byte(place, b))
+            } else {
+                Err(ParseError { part, place: next })
+            }
+        }
+        None => Err(ParseError { part, place }),
     }
 }
 
@@ -111,120 +91,81 @@ fn skip_space(text: &[u8], place: TextLocation, loose: bool) -> TextLocation
 pub fn read_optional_whitespace(text: &[u8], place: TextLocation) -> TextLocation
     ensures { ok tt result ≡ skip is_loose text.now place }
 {
-    skip_space(text, place, true)
+    skip_while(text, place, is_loose)
 }
 
 // Read a single byte.
-pub fn read_byte(text: &[u8], place: TextLocation, part: XbmPart) -> ByteRead
+pub fn read_byte(
+    text: &[u8],
+    place: TextLocation,
+    part: XbmPart,
+) -> Result<(u8, TextLocation), ParseError>
     ensures { told_byte result ≡ any_byte (number part) text.now place }
 {
-    match take(text, place) {
-        Took::Next(b, next) => ByteRead::Got(b, next),
-        Took::End => ByteRead::Refused(part, place),
-    }
+    take(text, place).ok_or(ParseError { part, place })
 }
 
 // Read a mixture of ' ' and '\t'. At least one character must be read.
-pub fn read_whitespace_gap(text: &[u8], place: TextLocation, part: XbmPart) -> Passed
+pub fn read_whitespace_gap(
+    text: &[u8],
+    place: TextLocation,
+    part: XbmPart,
+) -> Result<TextLocation, ParseError>
     ensures { told result ≡ gap (number part) text.now place }
 {
-    match take(text, place) {
-        Took::Next(b, next) => {
-            if is_blank(b) {
-                Passed::To(skip_space(text, next, false))
-            } else {
-                Passed::Refused(part, next)
-            }
-        }
-        Took::End => Passed::Refused(part, place),
-    }
+    let next = read_byte_of(text, place, is_blank, part)?;
+    Ok(skip_while(text, next, is_blank))
 }
 
 // Read a mixture of ' ' and '\t', until reading '\n'.
-pub fn read_to_newline(text: &[u8], place: TextLocation, part: XbmPart) -> Passed
+pub fn read_to_newline(
+    text: &[u8],
+    place: TextLocation,
+    part: XbmPart,
+) -> Result<TextLocation, ParseError>
     ensures { told result ≡ line_end (number part) text.now place }
 {
-    let at = skip_space(text, place, false);
-    match take(text, at) {
-        Took::Next(b, next) => {
-            if b == b'\n' {
-                Passed::To(next)
-            } else {
-                Passed::Refused(part, next)
-            }
-        }
-        Took::End => Passed::Refused(part, at),
-    }
+    let at = skip_while(text, place, is_blank);
+    read_byte_of(text, at, |b| b == b'\n', part)
 }
 
-// Read precisely the string `s`. Past the right byte the place is made of that byte, so that no newline is looked for where it is none.
-pub fn read_fixed_string(text: &[u8], place: TextLocation, s: &[u8], part: XbmPart) -> Passed
+// Read precisely the string `s`.
+pub fn read_fixed_string(
+    text: &[u8],
+    place: TextLocation,
+    s: &[u8],
+    part: XbmPart,
+) -> Result<TextLocation, ParseError>
     ensures { told result ≡ fixed (number part) s.now text.now place }
 {
     let mut at = place;
-    let mut i = 0;
-    while i < s.len() {
-        let right = s[i];
-        i += 1;
-        match take(text, at) {
-            Took::Next(b, next) => {
-                if b == right {
-                    at = past_byte(at, right);
-                } else {
-                    return Passed::Refused(part, next);
-                }
-            }
-            Took::End => return Passed::Refused(part, at),
-        }
+    for right in s {
+        at = read_byte_of(text, at, |b| b == *right, part)?;
     }
-    Passed::To(at)
+    Ok(at)
 }
 
-// The same after an answer, of which a refusal is passed on.
-pub fn then_fixed(text: &[u8], before: Passed, s: &[u8], part: XbmPart) -> Passed
-    ensures { told result ≡ onto «before» (fixed (number part) s.now) text.now }
-{
-    match before {
-        Passed::To(p) => read_fixed_string(text, p, s, part),
-        Passed::Refused(q, at) => Passed::Refused(q, at),
-    }
-}
-
-// A gap after an answer, of which a refusal is passed on.
-pub fn then_gap(text: &[u8], before: Passed, part: XbmPart) -> Passed
-    ensures { told result ≡ onto «before» (gap (number part)) text.now }
-{
-    match before {
-        Passed::To(p) => read_whitespace_gap(text, p, part),
-        Passed::Refused(q, at) => Passed::Refused(q, at),
-    }
-}
-
-// Read token into the buffer until the buffer size is exceeded, or ' ' or '\t' or '\n' is found.
+// Read token into the buffer until the buffer size is exceeded, or ' ' or '\t' or '\n' is found: how many bytes were stored, and the place after them.
 pub fn read_until_whitespace(
     text: &[u8],
     place: TextLocation,
     buf: &mut [u8],
     part: XbmPart,
-) -> Token
+) -> Result<(usize, TextLocation), ParseError>
     ensures { Tokened is_loose (number part) text.now place buf.old buf.new result }
 {
     let mut at = place;
     let mut len: usize = 0;
-    loop {
-        match take(text, at) {
-            Took::Next(b, next) => {
-                if is_loose(b) {
-                    return Token::Read(len, at);
-                }
-                if len >= buf.len() {
-                    return Token::Refused(part, at);
-                }
-                buf[len] = b;
-                len += 1;
-                at = next;
-            }
-            Took::End => return Token::Read(len, at),
+    while let Some((b, next)) = take(text, at) {
+        if is_loose(b) {
+            return Ok((len, at));
         }
+        if len >= buf.len() {
+            return Err(ParseError { part, place: at });
+        }
+        buf[len] = b;
+        len += 1;
+        at = next;
     }
+    Ok((len, at))
 }

@@ -8,6 +8,6 @@ pub returns-then-b-eq32 : goal.returns-then-b-eq32
 unfolding is_blank
 returns-then-b-eq32 c = grind (arith, common_steps)
 
-pub returns : goal.returns
+pub returns-else-b-eq32 : goal.returns-else-b-eq32
 unfolding is_blank
-returns c = grind (arith, common_steps)
+returns-else-b-eq32 c = grind (arith, common_steps)

@@ -8,6 +8,6 @@ pub returns-then-is_blank : goal.returns-then-is_blank
 unfolding is_loose
 returns-then-is_blank c = grind (arith, common_steps)
 
-pub returns : goal.returns
+pub returns-else-is_blank : goal.returns-else-is_blank
 unfolding is_loose
-returns c = grind (arith, common_steps)
+returns-else-is_blank c = grind (arith, common_steps)

@@ -1,16 +1,21 @@
 -- What the search leaves of `read_fixed_string`.
-use Rattle.std.proofs.Common.{rules}
-use Rattle.lexical.proofs.Laws.{fixed_laws}
+use Rattle.std.proofs.Common.{rules, refl, get_or}
+use Rattle.lexical.specs.Lexical.{is}
+use Rattle.lexical.proofs.Laws.{fixed_laws, refused-as}
 use Rattle.lexical.proofs.read_fixed_string.Goals as goal
 
-pub loop-i-preserved : goal.loop-i-preserved
-loop-i-preserved c = search (fixed_laws, rules)
+pub loop-right-init : goal.loop-right-init
+loop-right-init c = refl
 
-pub returns-else-b-right : goal.returns-else-b-right
-returns-else-b-right c = search (fixed_laws, rules)
+pub returns-in_err-at : goal.returns-in_err-at
+returns-in_err-at c =
+    let h = c.read_byte_of.ensures (is (get_or c.args.s.now c.loop-right.right-index 0)) (record { decides = λ b r p. search rules }) in
+    search (fixed_laws, refused-as c.from_residual.ensures.1, rules)
 
-pub returns-in-End : goal.returns-in-End
-returns-in-End c = search (fixed_laws, rules)
+pub loop-right-preserved : goal.loop-right-preserved
+loop-right-preserved c =
+    let h = c.read_byte_of.ensures (is (get_or c.args.s.now c.loop-right.right-index 0)) (record { decides = λ b r p. search rules }) in
+    search (fixed_laws, rules)
 
 pub returns : goal.returns
 returns c = search (fixed_laws, rules)

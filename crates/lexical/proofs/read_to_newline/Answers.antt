@@ -1,17 +1,12 @@
 -- What the search leaves of `read_to_newline`.
 use Rattle.std.proofs.Common.{rules}
-use Rattle.lexical.proofs.Laws.{byte_laws}
-use Rattle.lexical.specs.Lexical.{line_end}
+use Rattle.lexical.specs.Lexical.{is_blank, is, line_end}
+use Rattle.lexical.proofs.Laws.{pass_laws}
 use Rattle.lexical.proofs.read_to_newline.Goals as goal
 
-pub returns-then-b-eq10 : goal.returns-then-b-eq10
+pub returns : goal.returns
 unfolding line_end
-returns-then-b-eq10 c = search (byte_laws, rules)
-
-pub returns-else-b-eq10 : goal.returns-else-b-eq10
-unfolding line_end
-returns-else-b-eq10 c = search (byte_laws, rules)
-
-pub returns-in-End : goal.returns-in-End
-unfolding line_end
-returns-in-End c = search (byte_laws, rules)
+returns c =
+    let h = c.skip_while-at.ensures is_blank (record { decides = λ b r p. p }) in
+    let k = c.read_byte_of.ensures (is 10) (record { decides = λ b r p. search rules }) in
+    search (pass_laws, rules)

@@ -19,5 +19,5 @@ loop-b-smaller c = search (storing_laws, next-less, rules)
 pub loop-b-preserved : goal.loop-b-preserved
 loop-b-preserved c = search (storing_laws, next-less, rules)
 
-pub returns-in-End : goal.returns-in-End
-returns-in-End c = search (storing_laws, next-less, rules)
+pub returns : goal.returns
+returns c = search (storing_laws, next-less, rules)
