@@ -1,30 +1,48 @@
 -- An error as document 01's number and place, and what is told of it.
-use Rattle.std.specs.Prelude.{ℕ, ◌+◌, ◌*◌}
+use Rattle.std.specs.Prelude.{ℕ, ◌+◌, ◌*◌, Option, Some, None}
+use Rattle.text.specs.declared.TextLocation.{TextLocation}
 use Rattle.text.specs.Outcome.{Outcome, refused, unplaced}
 use Rattle.lexical.specs.Lexical.{number}
+use Rattle.lexical.specs.declared.ParseError.{ParseError}
 use Rattle.lexical.specs.declared.XbmPart.{XbmPart}
 use Rattle.integer.specs.declared.Fault.{Fault}
 use Rattle.integer.specs.Decimal.{fault_number}
 use Rattle.error.specs.declared.XbmDecodeError.{XbmDecodeError}
 use Rattle.error.specs.declared.XbmDecodeError.TheVariants.{Parse, DecodeInteger, ZeroWidth, ZeroHeight}
 use Rattle.error.specs.declared.Refusal.{Refusal}
-use Rattle.error.specs.declared.Refusal.TheVariants.{Placed, Unplaced}
+
+-- the error of a broken rule
+abbrev pub parse_of : ParseError → XbmDecodeError
+parse_of e = Parse e.part e.place
 
 -- the number of an integer's fault: ten for its part, from 110 on, and the fault's among them
 abbrev pub integer_number : XbmPart → Fault → ℕ
 integer_number part f = 100 + 10 * number part + fault_number f
 
--- a refusal's number, by document 01, and its place where one is told
-abbrev pub refusal_of : XbmDecodeError → Refusal
-refusal_of (Parse part p) = Placed (number part) p
-refusal_of (DecodeInteger part f) = Unplaced (integer_number part f)
-refusal_of ZeroWidth = Unplaced 21
-refusal_of ZeroHeight = Unplaced 22
+-- the number of an error, by document 01
+abbrev pub error_number : XbmDecodeError → ℕ
+error_number (Parse part p) = number part
+error_number (DecodeInteger part f) = integer_number part f
+error_number ZeroWidth = 21
+error_number ZeroHeight = 22
 
--- what is told of it
+-- its place, where one is told
+abbrev pub place_of_error : XbmDecodeError → Option TextLocation
+place_of_error (Parse part p) = Some p
+place_of_error (DecodeInteger part f) = None
+place_of_error ZeroWidth = None
+place_of_error ZeroHeight = None
+
+abbrev pub refusal_of : XbmDecodeError → Refusal
+refusal_of e = record { number = error_number e; place = place_of_error e }
+
+-- what is told of a refusal
+abbrev pub told_at : {A : Type 0} → ℕ → Option TextLocation → Outcome A
+told_at c (Some p) = refused c p
+told_at c None = unplaced c
+
 abbrev pub told_refusal : {A : Type 0} → Refusal → Outcome A
-told_refusal (Placed c p) = refused c p
-told_refusal (Unplaced c) = unplaced c
+told_refusal r = told_at r.number r.place
 
 abbrev pub told_error : {A : Type 0} → XbmDecodeError → Outcome A
 told_error e = told_refusal (refusal_of e)

@@ -2,14 +2,14 @@
 #![tactic(auto)]
 
 ghost use Rattle.std.specs.Prelude.{◌≡◌};
-ghost use Rattle.error.specs.Error.{integer_number, refusal_of};
+ghost use Rattle.error.specs.Error.{integer_number, error_number, parse_of, refusal_of};
 
 use integer::{Fault, fault_number};
-use lexical::{XbmPart, part_number};
+use lexical::{ParseError, XbmPart, part_number};
 use text::TextLocation;
 
 // Error that can occur while parsing an XBM file.
-#[derive(Clone, Copy)]
+#[derive(Clone, Copy, Debug, PartialEq, Eq)]
 pub enum XbmDecodeError {
     Parse(XbmPart, TextLocation),
     DecodeInteger(XbmPart, Fault),
@@ -17,11 +17,19 @@ pub enum XbmDecodeError {
     ZeroHeight,
 }
 
-// A refusal as document 01 tells it: its number, and its place where one is told.
-#[derive(Clone, Copy)]
-pub enum Refusal {
-    Placed(u32, TextLocation),
-    Unplaced(u32),
+impl From<ParseError> for XbmDecodeError {
+    ghost from_gives = { λ e r. r ≡ parse_of e };
+
+    fn from(e: ParseError) -> XbmDecodeError {
+        XbmDecodeError::Parse(e.part, e.place)
+    }
+}
+
+// A refusal as it is told: its number, and its place where one is told.
+#[derive(Clone, Copy, Debug, PartialEq, Eq)]
+pub struct Refusal {
+    pub number: u32,
+    pub place: Option<TextLocation>,
 }
 
 // The number of an integer's fault: ten numbers for a part, from 110 on, and in them one for a fault.
@@ -31,16 +39,29 @@ pub fn integer_number(part: XbmPart, fault: Fault) -> u32
     100 + 10 * part_number(part) + fault_number(fault)
 }
 
-// The number of an error, and its place.
-pub fn refusal_of(e: XbmDecodeError) -> Refusal
-    ensures { result ≡ refusal_of e }
+// The number of an error.
+fn error_number(e: XbmDecodeError) -> u32
+    ensures { result ≡ error_number e }
 {
     match e {
-        XbmDecodeError::Parse(part, p) => Refusal::Placed(part_number(part), p),
-        XbmDecodeError::DecodeInteger(part, fault) => {
-            Refusal::Unplaced(integer_number(part, fault))
+        XbmDecodeError::Parse(part, _) => part_number(part),
+        XbmDecodeError::DecodeInteger(part, fault) => integer_number(part, fault),
+        XbmDecodeError::ZeroWidth => 21,
+        XbmDecodeError::ZeroHeight => 22,
+    }
+}
+
+impl From<XbmDecodeError> for Refusal {
+    ghost from_gives = { λ e r. r ≡ refusal_of e };
+
+    fn from(e: XbmDecodeError) -> Refusal {
+        let place = match e {
+            XbmDecodeError::Parse(_, place) => Some(place),
+            _ => None,
+        };
+        Refusal {
+            number: error_number(e),
+            place,
         }
-        XbmDecodeError::ZeroWidth => Refusal::Unplaced(21),
-        XbmDecodeError::ZeroHeight => Refusal::Unplaced(22),
     }
 }
