@@ -1,5 +1,5 @@
 -- Which numbers a refusal can have. With a place: 1 to 5 in the header, 6 in data, 7 up to the semicolon, 8 after it. Without one: those that pass a test, `in_header` in the header, and then only 31.
-use Rattle.std.specs.Prelude.{◌≡◌, refl, Bool, eqb, leb, ltb}
+use Rattle.std.specs.Prelude.{◌≡◌, refl, Bool, eqb, leb, ltb, ℤ, Result as Parsed, Ok, Err}
 use Rattle.std.proofs.Common.{sym, ◌∙◌, inl, inr, arith, eqb-true, leb-true, le-leb}
 use Prim.Native.Nat.{ℕ, zero, suc, ◌+◌, ◌/◌, ◌≤◌}
 use Rattle.std.proofs.Math.Option.{Option, none, some}
@@ -15,10 +15,6 @@ use Rattle.lexical.specs.Token.{up_to, token}
 use Rattle.hexadecimal.specs.Hex.{hexv, hex_digit, hex_start, hex_digits, hex_unit}
 use Rattle.integer.specs.declared.Fault.{Fault}
 use Rattle.integer.specs.declared.Fault.TheVariants.{Empty, LeadingZero, NotDigit, OutOfRange}
-use Rattle.integer.specs.declared.Unsigned.{Unsigned}
-use Rattle.integer.specs.declared.Unsigned.TheVariants.{Value, Bad}
-use Rattle.integer.specs.declared.Signed.{Signed}
-use Rattle.integer.specs.declared.Signed.TheVariants.{Number, Wrong}
 use Rattle.integer.specs.Decimal.{parse_u32, parse_i32, unsigned_of, signed_of, fault_number, unsigned_fault, signed_fault}
 use Rattle.lines.specs.Lines.{unsigned, signed, width_line, element, array_line}
 use Rattle.header.specs.Header.{rest as headerRest, header}
@@ -98,17 +94,17 @@ module _ {lo hi : ℕ} {bare : ℕ → Bool} where
     unfolding need
     unsigned-numbered = record { numbered = λ t i. go (parse_u32 w) t i }
       where
-        go : (u : Unsigned) (t : List ℕ) (i : TextLocation) → Good lo hi bare (need (c + unsigned_fault u) (unsigned_of u) t i)
-        go (Value n) t i = tt
-        go (Bad f) t i = four-fault bare c s f
+        go : (u : Parsed ℕ Fault) (t : List ℕ) (i : TextLocation) → Good lo hi bare (need (c + unsigned_fault u) (unsigned_of u) t i)
+        go (Ok n) t i = tt
+        go (Err f) t i = four-fault bare c s f
 
     pub signed-numbered : Numbered lo hi bare (signed c w)
     unfolding need
     signed-numbered = record { numbered = λ t i. go (parse_i32 w) t i }
       where
-        go : (u : Signed) (t : List ℕ) (i : TextLocation) → Good lo hi bare (need (c + signed_fault u) (signed_of u) t i)
-        go (Number z) t i = tt
-        go (Wrong f) t i = four-fault bare c s f
+        go : (u : Parsed ℤ Fault) (t : List ℕ) (i : TextLocation) → Good lo hi bare (need (c + signed_fault u) (signed_of u) t i)
+        go (Ok z) t i = tt
+        go (Err f) t i = four-fault bare c s f
 
   -- a run that halts at no byte is not refused
   pub skip-numbered : (class : ℕ → Bool) → Numbered lo hi bare (skip class)

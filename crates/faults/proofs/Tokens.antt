@@ -1,5 +1,5 @@
 -- The reader's answer for a token, in these words: each answer is given just where they hold.
-use Rattle.std.specs.Prelude.{◌≡◌, ◌⊎◌, ℕ, ◌≤◌, ◌<◌, Bool, eqb, ℤ, pos, neg_ℤ}
+use Rattle.std.specs.Prelude.{◌≡◌, ◌⊎◌, ℕ, ◌≤◌, ◌<◌, Bool, eqb, ℤ, pos, neg_ℤ, Result, Ok, Err}
 use Rattle.std.proofs.Math.Path.{refl}
 use Rattle.std.proofs.Common.{sym, ap, ◌∙◌, arith}
 use Rattle.std.proofs.Math.Logic.{inl, inr}
@@ -13,10 +13,6 @@ use borrow.Author.Tests.{eqb-true, eqb-false, ne_eqb, leb-true, leb-false, lt-le
 use Rattle.text.specs.Place.{pick}
 use Rattle.integer.specs.declared.Fault.{Fault}
 use Rattle.integer.specs.declared.Fault.TheVariants.{Empty, LeadingZero, NotDigit, OutOfRange}
-use Rattle.integer.specs.declared.Unsigned.{Unsigned}
-use Rattle.integer.specs.declared.Unsigned.TheVariants.{Value, Bad}
-use Rattle.integer.specs.declared.Signed.{Signed}
-use Rattle.integer.specs.declared.Signed.TheVariants.{Number, Wrong}
 use Rattle.integer.specs.Decimal.{is_digit, all_digits, value_from, digits_from, parse_u32, parse_i32, signed_of, positive, negative}
 use Rattle.grammar.specs.Lang.{Word, ◌·◌}
 use Rattle.grammar.specs.Grammar.{Digits, value, Decimal, Coordinate}
@@ -74,30 +70,30 @@ plain-parse [] p = absurd (p.0 refl)
 plain-parse (x ∷ []) p = refl
 plain-parse (x ∷ y ∷ w) p = rw (ne_eqb x 48 (λ q. p.1 (y, w, ap (λ (b : ℕ). b ∷ y ∷ w) q)))
 
-marred-parse : (w : List ℕ) → Marred w → parse_u32 w ≡ Bad NotDigit
+marred-parse : (w : List ℕ) → Marred w → parse_u32 w ≡ Err NotDigit
 unfolding digits_from
 marred-parse w (p, (u, b, v, e, n)) = plain-parse w p ∙ go (all_digits w) refl
   where
-    go : (a : Bool) → all_digits w ≡ a → pick a (pick (leb (value_from 0 w) 4294967295) (Value (value_from 0 w)) (Bad OutOfRange)) (Bad NotDigit) ≡ Bad NotDigit
+    go : (a : Bool) → all_digits w ≡ a → pick a (pick (leb (value_from 0 w) 4294967295) (Ok (value_from 0 w)) (Err OutOfRange)) (Err NotDigit) ≡ Err NotDigit
     go true h = absurd (no-digits u b v n (rw e at (digits-true w h)))
     go false h = refl
 
-above-parse : (w : List ℕ) → Above 4294967295 w → parse_u32 w ≡ Bad OutOfRange
+above-parse : (w : List ℕ) → Above 4294967295 w → parse_u32 w ≡ Err OutOfRange
 unfolding digits_from
 above-parse w (p, d, l) = plain-parse w p ∙ rw (true-digits w d, value_same 0 w, lt-leb (value 0 w) 4294967295 l)
 
-pub says-answer : (r : Unsigned) (w : List ℕ) → Says r w → parse_u32 w ≡ r
-says-answer (Value n) w (d, l) = valued w n d l
-says-answer (Bad Empty) w e = ap parse_u32 e
-says-answer (Bad LeadingZero) w (b, v, e) = ap parse_u32 e
-says-answer (Bad NotDigit) w h = marred-parse w h
-says-answer (Bad OutOfRange) w h = above-parse w h
+pub says-answer : (r : Result ℕ Fault) (w : List ℕ) → Says r w → parse_u32 w ≡ r
+says-answer (Ok n) w (d, l) = valued w n d l
+says-answer (Err Empty) w e = ap parse_u32 e
+says-answer (Err LeadingZero) w (b, v, e) = ap parse_u32 e
+says-answer (Err NotDigit) w h = marred-parse w h
+says-answer (Err OutOfRange) w h = above-parse w h
 
 by_digits : (w : List ℕ) → Plain w → Says (digits_from 0 w) w
 unfolding digits_from
 by_digits w p = go (all_digits w) (leb (value_from 0 w) 4294967295) refl refl
   where
-    go : (a b : Bool) → all_digits w ≡ a → leb (value_from 0 w) 4294967295 ≡ b → Says (pick a (pick b (Value (value_from 0 w)) (Bad OutOfRange)) (Bad NotDigit)) w
+    go : (a b : Bool) → all_digits w ≡ a → leb (value_from 0 w) 4294967295 ≡ b → Says (pick a (pick b (Ok (value_from 0 w)) (Err OutOfRange)) (Err NotDigit)) w
     go true true u v = rw (value_same 0 w) (plain-decimal w p (digits-true w u), omega (arith, leb-true (value_from 0 w) 4294967295 v, value_same 0 w))
     go true false u v = (p, digits-true w u, omega (arith, leb-false (value_from 0 w) 4294967295 v, value_same 0 w))
     go false b u v = (p, odd_byte w u)
@@ -107,7 +103,7 @@ answer-says [] = refl
 answer-says (x ∷ []) = by_digits (x ∷ []) (single-plain x)
 answer-says (x ∷ y ∷ w) = go (eqb x 48) refl
   where
-    go : (b : Bool) → eqb x 48 ≡ b → Says (pick b (Bad LeadingZero) (digits_from 0 (x ∷ y ∷ w))) (x ∷ y ∷ w)
+    go : (b : Bool) → eqb x 48 ≡ b → Says (pick b (Err LeadingZero) (digits_from 0 (x ∷ y ∷ w))) (x ∷ y ∷ w)
     go true h = (y, w, ap (λ (b : ℕ). b ∷ y ∷ w) (eqb-true x 48 h))
     go false h = by_digits (x ∷ y ∷ w) (several-plain x y w (eqb-false x 48 h))
 
@@ -124,71 +120,71 @@ plus-parse (x ∷ w) n = rw (ne_eqb x 45 (λ q. n w (ap (λ (b : ℕ). b ∷ w) 
 digits-unsigned : (w : List ℕ) → Digits w → (u : List ℕ) → w ≡ 45 ∷ u → ⊥
 digits-unsigned w d u e = let (h, t) = rw e at d in omega (arith, h)
 
-fault-parse : (f : Fault) (w v : List ℕ) → Behind w v → parse_u32 v ≡ Bad f → parse_i32 w ≡ Wrong f
+fault-parse : (f : Fault) (w v : List ℕ) → Behind w v → parse_u32 v ≡ Err f → parse_i32 w ≡ Err f
 fault-parse f w v (inl e) q = minus-parse w v e ∙ ap negative q
 fault-parse f w v (inr (e, n)) q = plus-parse w n ∙ ap positive (ap parse_u32 e ∙ q)
 
 -- digits above m, which is below 2^32: too large, by the value or by the range of a side
-over-parse : (m : ℕ) (v : List ℕ) → Above m v → ((n : ℕ) × (parse_u32 v ≡ Value n) × (m < n)) ⊎ (parse_u32 v ≡ Bad OutOfRange)
+over-parse : (m : ℕ) (v : List ℕ) → Above m v → ((n : ℕ) × (parse_u32 v ≡ Ok n) × (m < n)) ⊎ (parse_u32 v ≡ Err OutOfRange)
 over-parse m v (p, d, l) = go (dec_le (value 0 v) 4294967295)
   where
-    go : Dec (value 0 v ≤ 4294967295) → ((n : ℕ) × (parse_u32 v ≡ Value n) × (m < n)) ⊎ (parse_u32 v ≡ Bad OutOfRange)
+    go : Dec (value 0 v ≤ 4294967295) → ((n : ℕ) × (parse_u32 v ≡ Ok n) × (m < n)) ⊎ (parse_u32 v ≡ Err OutOfRange)
     go (yes h) = inl (value 0 v, valued v (value 0 v) (plain-decimal v p d) (omega arith), l)
     go (no h) = inr (above-parse v (p, d, omega arith))
 
-minus-over : (v : List ℕ) → Above 2147483648 v → negative (parse_u32 v) ≡ Wrong OutOfRange
+minus-over : (v : List ℕ) → Above 2147483648 v → negative (parse_u32 v) ≡ Err OutOfRange
 minus-over v h = go (over-parse 2147483648 v h)
   where
-    go : ((n : ℕ) × (parse_u32 v ≡ Value n) × (2147483648 < n)) ⊎ (parse_u32 v ≡ Bad OutOfRange) → negative (parse_u32 v) ≡ Wrong OutOfRange
+    go : ((n : ℕ) × (parse_u32 v ≡ Ok n) × (2147483648 < n)) ⊎ (parse_u32 v ≡ Err OutOfRange) → negative (parse_u32 v) ≡ Err OutOfRange
     go (inl (n, q, l)) = rw (q, lt-leb n 2147483648 l)
     go (inr q) = rw q
 
-plus-over : (v : List ℕ) → Above 2147483647 v → positive (parse_u32 v) ≡ Wrong OutOfRange
+plus-over : (v : List ℕ) → Above 2147483647 v → positive (parse_u32 v) ≡ Err OutOfRange
 plus-over v h = go (over-parse 2147483647 v h)
   where
-    go : ((n : ℕ) × (parse_u32 v ≡ Value n) × (2147483647 < n)) ⊎ (parse_u32 v ≡ Bad OutOfRange) → positive (parse_u32 v) ≡ Wrong OutOfRange
+    go : ((n : ℕ) × (parse_u32 v ≡ Ok n) × (2147483647 < n)) ⊎ (parse_u32 v ≡ Err OutOfRange) → positive (parse_u32 v) ≡ Err OutOfRange
     go (inl (n, q, l)) = rw (q, lt-leb n 2147483647 l)
     go (inr q) = rw q
 
-numbered : (z : ℤ) (w : List ℕ) → Coordinate z w → parse_i32 w ≡ Number z
+numbered : (z : ℤ) (w : List ℕ) → Coordinate z w → parse_i32 w ≡ Ok z
 numbered z w c = go (parse_i32 w) (coordinate→integer w z c)
   where
-    go : (s : Signed) → signed_of s ≡ some z → s ≡ Number z
-    go (Number y) q = cc
-    go (Wrong f) q = let x : ◌≡◌ {A = ℕ} 0 1 = cc in absurd (omega arith)
+    go : (s : Result ℤ Fault) → signed_of s ≡ some z → s ≡ Ok z
+    go (Ok y) q = cc
+    go (Err f) q = let x : ◌≡◌ {A = ℕ} 0 1 = cc in absurd (omega arith)
 
-pub says-signed : (r : Signed) (w : List ℕ) → SaysSigned r w → parse_i32 w ≡ r
-says-signed (Number z) w c = numbered z w c
-says-signed (Wrong Empty) w (v, b, h) = fault-parse Empty w v b (says-answer (Bad Empty) v h)
-says-signed (Wrong LeadingZero) w (v, b, h) = fault-parse LeadingZero w v b (says-answer (Bad LeadingZero) v h)
-says-signed (Wrong NotDigit) w (v, b, h) = fault-parse NotDigit w v b (says-answer (Bad NotDigit) v h)
-says-signed (Wrong OutOfRange) w (inl (v, e, h)) = minus-parse w v e ∙ minus-over v h
-says-signed (Wrong OutOfRange) w (inr (p, d, l)) = plus-parse w (digits-unsigned w d) ∙ plus-over w (p, d, l)
+pub says-signed : (r : Result ℤ Fault) (w : List ℕ) → SaysSigned r w → parse_i32 w ≡ r
+says-signed (Ok z) w c = numbered z w c
+says-signed (Err Empty) w (v, b, h) = fault-parse Empty w v b (says-answer (Err Empty) v h)
+says-signed (Err LeadingZero) w (v, b, h) = fault-parse LeadingZero w v b (says-answer (Err LeadingZero) v h)
+says-signed (Err NotDigit) w (v, b, h) = fault-parse NotDigit w v b (says-answer (Err NotDigit) v h)
+says-signed (Err OutOfRange) w (inl (v, e, h)) = minus-parse w v e ∙ minus-over v h
+says-signed (Err OutOfRange) w (inr (p, d, l)) = plus-parse w (digits-unsigned w d) ∙ plus-over w (p, d, l)
 
 module _ (w v : List ℕ) where
-  minus-says : w ≡ 45 ∷ v → (u : Unsigned) → Says u v → SaysSigned (negative u) w
+  minus-says : w ≡ 45 ∷ v → (u : Result ℕ Fault) → Says u v → SaysSigned (negative u) w
   unfolding Coordinate ◌·◌ Word
-  minus-says e (Value n) (d, l) = go (leb n 2147483648) refl
+  minus-says e (Ok n) (d, l) = go (leb n 2147483648) refl
     where
-      go : (b : Bool) → leb n 2147483648 ≡ b → SaysSigned (pick b (Number (neg_ℤ (pos n))) (Wrong OutOfRange)) w
+      go : (b : Bool) → leb n 2147483648 ≡ b → SaysSigned (pick b (Ok (neg_ℤ (pos n))) (Err OutOfRange)) w
       go true h = (n, inr ((45 ∷ [], v, e, refl, d), refl, leb-true n 2147483648 h))
       go false h = let (p, g, q) = decimal-plain n v d in inl (v, e, (p, g, omega (arith, leb-false n 2147483648 h)))
-  minus-says e (Bad Empty) h = (v, inl e, h)
-  minus-says e (Bad LeadingZero) h = (v, inl e, h)
-  minus-says e (Bad NotDigit) h = (v, inl e, h)
-  minus-says e (Bad OutOfRange) (p, g, l) = inl (v, e, (p, g, omega arith))
+  minus-says e (Err Empty) h = (v, inl e, h)
+  minus-says e (Err LeadingZero) h = (v, inl e, h)
+  minus-says e (Err NotDigit) h = (v, inl e, h)
+  minus-says e (Err OutOfRange) (p, g, l) = inl (v, e, (p, g, omega arith))
 
-plus-says : (w : List ℕ) → ((u : List ℕ) → w ≡ 45 ∷ u → ⊥) → (r : Unsigned) → Says r w → SaysSigned (positive r) w
+plus-says : (w : List ℕ) → ((u : List ℕ) → w ≡ 45 ∷ u → ⊥) → (r : Result ℕ Fault) → Says r w → SaysSigned (positive r) w
 unfolding Coordinate
-plus-says w s (Value n) (d, l) = go (leb n 2147483647) refl
+plus-says w s (Ok n) (d, l) = go (leb n 2147483647) refl
   where
-    go : (b : Bool) → leb n 2147483647 ≡ b → SaysSigned (pick b (Number (pos n)) (Wrong OutOfRange)) w
+    go : (b : Bool) → leb n 2147483647 ≡ b → SaysSigned (pick b (Ok (pos n)) (Err OutOfRange)) w
     go true h = (n, inl (d, refl, omega (arith, leb-true n 2147483647 h)))
     go false h = let (p, g, q) = decimal-plain n w d in inr (p, g, omega (arith, leb-false n 2147483647 h))
-plus-says w s (Bad Empty) h = (w, inr (refl, s), h)
-plus-says w s (Bad LeadingZero) h = (w, inr (refl, s), h)
-plus-says w s (Bad NotDigit) h = (w, inr (refl, s), h)
-plus-says w s (Bad OutOfRange) (p, g, l) = inr (p, g, omega arith)
+plus-says w s (Err Empty) h = (w, inr (refl, s), h)
+plus-says w s (Err LeadingZero) h = (w, inr (refl, s), h)
+plus-says w s (Err NotDigit) h = (w, inr (refl, s), h)
+plus-says w s (Err OutOfRange) (p, g, l) = inr (p, g, omega arith)
 
 pub signed-says : (w : List ℕ) → SaysSigned (parse_i32 w) w
 signed-says [] = ([], inr (refl, λ u q. never q), refl)

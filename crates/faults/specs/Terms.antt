@@ -1,10 +1,7 @@
 -- The words that the claims on an integer's token are stated in: what is wrong with it, and what each answer says. No reader is in them.
-use Rattle.std.specs.Prelude.{◌≡◌, ◌⊎◌, ℕ, ◌≤◌, ◌<◌, List, [], ◌∷◌, ◌++◌, ℤ}
+use Rattle.std.specs.Prelude.{◌≡◌, ◌⊎◌, ℕ, ◌≤◌, ◌<◌, List, [], ◌∷◌, ◌++◌, ℤ, Result, Ok, Err}
+use Rattle.integer.specs.declared.Fault.{Fault}
 use Rattle.integer.specs.declared.Fault.TheVariants.{Empty, LeadingZero, NotDigit, OutOfRange}
-use Rattle.integer.specs.declared.Unsigned.{Unsigned}
-use Rattle.integer.specs.declared.Unsigned.TheVariants.{Value, Bad}
-use Rattle.integer.specs.declared.Signed.{Signed}
-use Rattle.integer.specs.declared.Signed.TheVariants.{Number, Wrong}
 use Rattle.grammar.specs.Lang.{Lang}
 use Rattle.grammar.specs.Grammar.{Digits, value, Decimal, Coordinate}
 
@@ -46,19 +43,19 @@ Beyond w = ((v : List ℕ) × (w ≡ 45 ∷ v) × Above 2147483648 v) ⊎ Above 
 
 -- ---- what an answer says of its token
 
-abbrev pub Says : Unsigned → Lang
-Says (Value n) w = Decimal n w × (n < 4294967296)
-Says (Bad Empty) w = Nothing w
-Says (Bad LeadingZero) w = ZeroLed w
-Says (Bad NotDigit) w = Marred w
-Says (Bad OutOfRange) w = Above 4294967295 w
+abbrev pub Says : Result ℕ Fault → Lang
+Says (Ok n) w = Decimal n w × (n < 4294967296)
+Says (Err Empty) w = Nothing w
+Says (Err LeadingZero) w = ZeroLed w
+Says (Err NotDigit) w = Marred w
+Says (Err OutOfRange) w = Above 4294967295 w
 
-abbrev pub SaysSigned : Signed → Lang
-SaysSigned (Number z) w = Coordinate z w
-SaysSigned (Wrong Empty) w = PastSign Nothing w
-SaysSigned (Wrong LeadingZero) w = PastSign ZeroLed w
-SaysSigned (Wrong NotDigit) w = PastSign Marred w
-SaysSigned (Wrong OutOfRange) w = Beyond w
+abbrev pub SaysSigned : Result ℤ Fault → Lang
+SaysSigned (Ok z) w = Coordinate z w
+SaysSigned (Err Empty) w = PastSign Nothing w
+SaysSigned (Err LeadingZero) w = PastSign ZeroLed w
+SaysSigned (Err NotDigit) w = PastSign Marred w
+SaysSigned (Err OutOfRange) w = Beyond w
 
 -- ---- a token that writes no side, not even 0; one that writes no coordinate
 

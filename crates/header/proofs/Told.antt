@@ -3,6 +3,7 @@ use Prim.Native.Nat.{ℕ, ◌+◌}
 use borrow.Author.Tests.{eq-eqb, ne_eqb}
 use mathlib.Core.Path.{◌≡◌, refl}
 use mathlib.Core.List.{List}
+use Rattle.std.specs.Prelude.{Result, Ok, Err}
 use Rattle.text.specs.declared.TextLocation.{TextLocation}
 use Rattle.text.specs.declared.Took.{Took}
 use Rattle.text.specs.declared.Took.TheVariants.{Next, End}
@@ -12,20 +13,18 @@ use Rattle.text.specs.Outcome.{Outcome, refused, unplaced, Ended, shown}
 use Rattle.text.specs.Leaf.{need, fork}
 use Rattle.text.proofs.Reading.{fork-first, fork-second, fork-neither, fork-end}
 use Rattle.integer.specs.declared.Fault.{Fault}
-use Rattle.integer.specs.declared.Unsigned.{Unsigned}
-use Rattle.integer.specs.declared.Unsigned.TheVariants.{Value, Bad}
 use Rattle.integer.specs.Decimal.{parse_u32, unsigned_of, unsigned_fault, fault_number}
 use Rattle.lines.specs.Lines.{positive}
 use Rattle.lines.proofs.Told.{line_laws}
 use Rattle.hotspot.proofs.Told.{show-spot, show-no-spot}
 
 -- an integer of a token; a side that must not be zero
-module _ {B : Type 0} (c : ℕ) (w : List ℕ) (f : ℕ → Reader B) (t : List ℕ) (i : TextLocation) {m : Unsigned} (e : m ≡ parse_u32 w) {z : Outcome (Ended B)} where
-  pub show-value : {n : ℕ} → m ≡ Value n → z ≡ shown (f n t i) → z ≡ shown ((need (c + unsigned_fault (parse_u32 w)) (unsigned_of (parse_u32 w)) >>= f) t i)
+module _ {B : Type 0} (c : ℕ) (w : List ℕ) (f : ℕ → Reader B) (t : List ℕ) (i : TextLocation) {m : Result ℕ Fault} (e : m ≡ parse_u32 w) {z : Outcome (Ended B)} where
+  pub show-value : {n : ℕ} → m ≡ Ok n → z ≡ shown (f n t i) → z ≡ shown ((need (c + unsigned_fault (parse_u32 w)) (unsigned_of (parse_u32 w)) >>= f) t i)
   unfolding need ◌>>=◌
   show-value h k = rw (← e, h) k
 
-  pub show-bad : {k : Fault} → m ≡ Bad k → z ≡ unplaced (c + fault_number k) → z ≡ shown ((need (c + unsigned_fault (parse_u32 w)) (unsigned_of (parse_u32 w)) >>= f) t i)
+  pub show-bad : {k : Fault} → m ≡ Err k → z ≡ unplaced (c + fault_number k) → z ≡ shown ((need (c + unsigned_fault (parse_u32 w)) (unsigned_of (parse_u32 w)) >>= f) t i)
   unfolding need ◌>>=◌
   show-bad h k = rw (← e, h) k
 

@@ -3,13 +3,12 @@ use Prim.Native.Nat.{ℕ, ◌+◌}
 use mathlib.Core.Path.{◌≡◌}
 use mathlib.Core.List.{List}
 use lib.IntN.{ℤ}
+use Rattle.std.specs.Prelude.{Result, Ok, Err}
 use Rattle.text.specs.declared.TextLocation.{TextLocation}
 use Rattle.text.specs.Reader.{Reader, ◌>>=◌}
 use Rattle.text.specs.Outcome.{Outcome, accepted, unplaced, Ended, ending_at, shown}
 use Rattle.text.specs.Leaf.{need}
 use Rattle.integer.specs.declared.Fault.{Fault}
-use Rattle.integer.specs.declared.Signed.{Signed}
-use Rattle.integer.specs.declared.Signed.TheVariants.{Number, Wrong}
 use Rattle.integer.specs.Decimal.{parse_i32, signed_of, signed_fault, fault_number}
 use Rattle.error.specs.declared.XbmDecodeError.{XbmDecodeError}
 use Rattle.error.specs.Error.{told_error}
@@ -36,12 +35,12 @@ module _ {B : Type 0} (p : Reader (ℤ × ℤ)) (f : ℤ × ℤ → Reader B) (t
   show-no-spot {x} h k = show-error p f t i x (rw h at e) k
 
 -- an integer of a token
-module _ (c : ℕ) (w : List ℕ) (t : List ℕ) (i : TextLocation) {m : Signed} (e : m ≡ parse_i32 w) {z : Outcome (Ended ℤ)} where
-  pub show-number : {n : ℤ} → m ≡ Number n → z ≡ accepted (ending_at n i) → z ≡ shown (need (c + signed_fault (parse_i32 w)) (signed_of (parse_i32 w)) t i)
+module _ (c : ℕ) (w : List ℕ) (t : List ℕ) (i : TextLocation) {m : Result ℤ Fault} (e : m ≡ parse_i32 w) {z : Outcome (Ended ℤ)} where
+  pub show-number : {n : ℤ} → m ≡ Ok n → z ≡ accepted (ending_at n i) → z ≡ shown (need (c + signed_fault (parse_i32 w)) (signed_of (parse_i32 w)) t i)
   unfolding need
   show-number h k = rw (← e, h) k
 
-  pub show-wrong : {f : Fault} → m ≡ Wrong f → z ≡ unplaced (c + fault_number f) → z ≡ shown (need (c + signed_fault (parse_i32 w)) (signed_of (parse_i32 w)) t i)
+  pub show-wrong : {f : Fault} → m ≡ Err f → z ≡ unplaced (c + fault_number f) → z ≡ shown (need (c + signed_fault (parse_i32 w)) (signed_of (parse_i32 w)) t i)
   unfolding need
   show-wrong h k = rw (← e, h) k
 

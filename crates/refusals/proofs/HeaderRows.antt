@@ -1,6 +1,6 @@
 -- The refusals of the width line and the height line, two-sided: 1, 111 to 114, 21 and 2, 121 to 124, 22.
 use Rattle.std.proofs.Math.Path.{◌≡◌}
-use Rattle.std.specs.Prelude.{refl, ◌↔◌, ℕ, zero, suc, ◌+◌, ◌-◌, ◌*◌, ◌≤◌, Bool, true, false, not, List, [], ◌∷◌, ◌++◌, length, eqb}
+use Rattle.std.specs.Prelude.{refl, ◌↔◌, ℕ, zero, suc, ◌+◌, ◌-◌, ◌*◌, ◌≤◌, Bool, true, false, not, List, [], ◌∷◌, ◌++◌, length, eqb, Err}
 use Rattle.std.proofs.Common.{sym, ap, ◌∙◌, eq-eqb}
 use native.Mathlib.Omega.{arith}
 use Rattle.std.proofs.Math.Option.{none, some}
@@ -14,7 +14,6 @@ use Rattle.lexical.specs.Lexical.{leading}
 use Rattle.lexical.proofs.Lexical.{locals, milds}
 use Rattle.integer.specs.declared.Fault.{Fault}
 use Rattle.integer.specs.declared.Fault.TheVariants.{Empty, LeadingZero, NotDigit, OutOfRange}
-use Rattle.integer.specs.declared.Unsigned.TheVariants.{Bad}
 use Rattle.integer.specs.Decimal.{parse_u32, fault_number, unsigned_fault}
 use Rattle.lines.specs.Lines.{unsigned, signed, side, positive, width_line, array_line}
 use Rattle.lines.proofs.Lines.{line_laws, element-local, element-mild}
@@ -189,11 +188,11 @@ module _ (text name pixels : List ℕ) where
     λ (s, w, b, x, y). (let (e, a) = (begun (Line (s, w)) text).1 b in ((s, w), e, x, a, y)),
   )))
 
-  pub row-width : (f : Fault) → ((reading text name pixels).answer ≡ unplaced (110 + fault_number f)) ↔ BadWidth limit (Says (Bad f)) text
-  row-width Empty = told-front 111 (Says (Bad Empty)) (λ q. omega arith) (λ s w m. both_ways (wide-bad s w text m 111 refl refl refl refl refl) (side-fault 110 Empty w))
-  row-width LeadingZero = told-front 112 (Says (Bad LeadingZero)) (λ q. omega arith) (λ s w m. both_ways (wide-bad s w text m 112 refl refl refl refl refl) (side-fault 110 LeadingZero w))
-  row-width NotDigit = told-front 113 (Says (Bad NotDigit)) (λ q. omega arith) (λ s w m. both_ways (wide-bad s w text m 113 refl refl refl refl refl) (side-fault 110 NotDigit w))
-  row-width OutOfRange = told-front 114 (Says (Bad OutOfRange)) (λ q. omega arith) (λ s w m. both_ways (wide-bad s w text m 114 refl refl refl refl refl) (side-fault 110 OutOfRange w))
+  pub row-width : (f : Fault) → ((reading text name pixels).answer ≡ unplaced (110 + fault_number f)) ↔ BadWidth limit (Says (Err f)) text
+  row-width Empty = told-front 111 (Says (Err Empty)) (λ q. omega arith) (λ s w m. both_ways (wide-bad s w text m 111 refl refl refl refl refl) (side-fault 110 Empty w))
+  row-width LeadingZero = told-front 112 (Says (Err LeadingZero)) (λ q. omega arith) (λ s w m. both_ways (wide-bad s w text m 112 refl refl refl refl refl) (side-fault 110 LeadingZero w))
+  row-width NotDigit = told-front 113 (Says (Err NotDigit)) (λ q. omega arith) (λ s w m. both_ways (wide-bad s w text m 113 refl refl refl refl refl) (side-fault 110 NotDigit w))
+  row-width OutOfRange = told-front 114 (Says (Err OutOfRange)) (λ q. omega arith) (λ s w m. both_ways (wide-bad s w text m 114 refl refl refl refl refl) (side-fault 110 OutOfRange w))
 
   pub row-21 : ((reading text name pixels).answer ≡ unplaced 21) ↔ ZeroWidth limit text
   row-21 = both_ways (told-front 21 (Decimal 0) (λ q. omega arith) (λ s w m. wide-21 s w text m)) (
@@ -297,11 +296,11 @@ module _ (text name pixels : List ℕ) where
     λ (m, w, b, x, y). (let (e, a) = (begun (Wide (m.name, m.width) · High (m.name, m.width) w) text).1 b in ((m.name, m.width), w, e, x, a, y)),
   )))
 
-  pub row-height : (f : Fault) → ((reading text name pixels).answer ≡ unplaced (120 + fault_number f)) ↔ BadHeight lim (Says (Bad f)) text
-  row-height Empty = told-first 121 (Says (Bad Empty)) (λ q. omega arith) (first-quiet lim refl refl) (λ nw w m. both_ways (high-bad nw w text m 121 refl refl refl) (side-fault 120 Empty w))
-  row-height LeadingZero = told-first 122 (Says (Bad LeadingZero)) (λ q. omega arith) (first-quiet lim refl refl) (λ nw w m. both_ways (high-bad nw w text m 122 refl refl refl) (side-fault 120 LeadingZero w))
-  row-height NotDigit = told-first 123 (Says (Bad NotDigit)) (λ q. omega arith) (first-quiet lim refl refl) (λ nw w m. both_ways (high-bad nw w text m 123 refl refl refl) (side-fault 120 NotDigit w))
-  row-height OutOfRange = told-first 124 (Says (Bad OutOfRange)) (λ q. omega arith) (first-quiet lim refl refl) (λ nw w m. both_ways (high-bad nw w text m 124 refl refl refl) (side-fault 120 OutOfRange w))
+  pub row-height : (f : Fault) → ((reading text name pixels).answer ≡ unplaced (120 + fault_number f)) ↔ BadHeight lim (Says (Err f)) text
+  row-height Empty = told-first 121 (Says (Err Empty)) (λ q. omega arith) (first-quiet lim refl refl) (λ nw w m. both_ways (high-bad nw w text m 121 refl refl refl) (side-fault 120 Empty w))
+  row-height LeadingZero = told-first 122 (Says (Err LeadingZero)) (λ q. omega arith) (first-quiet lim refl refl) (λ nw w m. both_ways (high-bad nw w text m 122 refl refl refl) (side-fault 120 LeadingZero w))
+  row-height NotDigit = told-first 123 (Says (Err NotDigit)) (λ q. omega arith) (first-quiet lim refl refl) (λ nw w m. both_ways (high-bad nw w text m 123 refl refl refl) (side-fault 120 NotDigit w))
+  row-height OutOfRange = told-first 124 (Says (Err OutOfRange)) (λ q. omega arith) (first-quiet lim refl refl) (λ nw w m. both_ways (high-bad nw w text m 124 refl refl refl) (side-fault 120 OutOfRange w))
 
   pub row-22 : ((reading text name pixels).answer ≡ unplaced 22) ↔ ZeroHeight lim text
   row-22 = both_ways (told-first 22 (Decimal 0) (λ q. omega arith) (first-quiet lim refl refl) (λ nw w m. high-22 nw w text m)) (

@@ -1,5 +1,5 @@
 -- The refusals of the hotspot's lines, two-sided: 3, 131 to 134 and 4, 141 to 144.
-use Rattle.std.specs.Prelude.{◌≡◌, ◌↔◌, ◌⊎◌, ℕ, ◌+◌, ◌≤◌, Bool, length, eqb, ℤ}
+use Rattle.std.specs.Prelude.{◌≡◌, ◌↔◌, ◌⊎◌, ℕ, ◌+◌, ◌≤◌, Bool, length, eqb, ℤ, Err}
 use Rattle.std.proofs.Math.Path.{refl, ap}
 use Rattle.std.proofs.Common.{sym, ◌∙◌, arith, eqb-true, eq-eqb, ne_eqb}
 use Rattle.std.proofs.Math.Logic.{inl, inr}
@@ -16,7 +16,6 @@ use Rattle.text.specs.Outcome.{unplaced}
 use Rattle.lexical.specs.Lexical.{leading}
 use Rattle.integer.specs.declared.Fault.{Fault}
 use Rattle.integer.specs.declared.Fault.TheVariants.{Empty, LeadingZero, NotDigit, OutOfRange}
-use Rattle.integer.specs.declared.Signed.TheVariants.{Wrong}
 use Rattle.integer.specs.Decimal.{parse_i32, fault_number, signed_fault}
 use Rattle.lines.specs.Lines.{line, side, signed, width_line}
 use Rattle.header.specs.Header.{Head, ending, hotspot, rest, header}
@@ -283,11 +282,11 @@ module _ (text name pixels : List ℕ) where
     λ (m, w, b, x, y). (let (e, l) = (begun (Both lim (three_of m) · LineX (three_of m) w) text).1 b in (three_of m, w, e, x, l, y)),
   )))))
 
-  pub row-x : (f : Fault) → ((reading text name pixels).answer ≡ unplaced (130 + fault_number f)) ↔ BadX lim (SaysSigned (Wrong f)) text
-  row-x Empty = told-x 131 (SaysSigned (Wrong Empty)) (λ q. omega arith) (second-quiet lim refl refl refl refl) (λ a w m. both_ways (left-bad a w text m 131 refl) (coordinate-fault 130 Empty w))
-  row-x LeadingZero = told-x 132 (SaysSigned (Wrong LeadingZero)) (λ q. omega arith) (second-quiet lim refl refl refl refl) (λ a w m. both_ways (left-bad a w text m 132 refl) (coordinate-fault 130 LeadingZero w))
-  row-x NotDigit = told-x 133 (SaysSigned (Wrong NotDigit)) (λ q. omega arith) (second-quiet lim refl refl refl refl) (λ a w m. both_ways (left-bad a w text m 133 refl) (coordinate-fault 130 NotDigit w))
-  row-x OutOfRange = told-x 134 (SaysSigned (Wrong OutOfRange)) (λ q. omega arith) (second-quiet lim refl refl refl refl) (λ a w m. both_ways (left-bad a w text m 134 refl) (coordinate-fault 130 OutOfRange w))
+  pub row-x : (f : Fault) → ((reading text name pixels).answer ≡ unplaced (130 + fault_number f)) ↔ BadX lim (SaysSigned (Err f)) text
+  row-x Empty = told-x 131 (SaysSigned (Err Empty)) (λ q. omega arith) (second-quiet lim refl refl refl refl) (λ a w m. both_ways (left-bad a w text m 131 refl) (coordinate-fault 130 Empty w))
+  row-x LeadingZero = told-x 132 (SaysSigned (Err LeadingZero)) (λ q. omega arith) (second-quiet lim refl refl refl refl) (λ a w m. both_ways (left-bad a w text m 132 refl) (coordinate-fault 130 LeadingZero w))
+  row-x NotDigit = told-x 133 (SaysSigned (Err NotDigit)) (λ q. omega arith) (second-quiet lim refl refl refl refl) (λ a w m. both_ways (left-bad a w text m 133 refl) (coordinate-fault 130 NotDigit w))
+  row-x OutOfRange = told-x 134 (SaysSigned (Err OutOfRange)) (λ q. omega arith) (second-quiet lim refl refl refl refl) (λ a w m. both_ways (left-bad a w text m 134 refl) (coordinate-fault 130 OutOfRange w))
 
   pub row-4 : Placed (reading text name pixels).answer 4 ↔ NoYLine lim text
   row-4 = both_ways (told-stop text name pixels 4 (omega arith)) (rw (header-second lim) (both_ways swap-4 (rw (third-hot lim) (both_ways (after_stop (third lim) (λ b. hot_y b.0.0.0) right (Crossed lim) (λ b. All solid b.0.0.0) Token LineY (third-fits lim) (crossed-name lim) (λ b s w. known-fits 4 b.0.0.0 (ascii "y_hot") w s) 4 (λ b. hot-y-numbered b.0.0.0) text start (third-numbered lim) (λ a b. omega arith) right-numbered (λ a b. omega arith)) (
@@ -302,11 +301,11 @@ module _ (text name pixels : List ℕ) where
     λ (m, x, w, d, z, y). (let (e, l) = (begun (Crossed lim (three_of m, x) · LineY (three_of m, x) w) text).1 d in ((three_of m, x), w, e, z, l, y)),
   )))))
 
-  pub row-y : (f : Fault) → ((reading text name pixels).answer ≡ unplaced (140 + fault_number f)) ↔ BadY lim (SaysSigned (Wrong f)) text
-  row-y Empty = told-y 141 (SaysSigned (Wrong Empty)) (λ q. omega arith) (second-quiet lim refl refl refl refl) (third-quiet lim refl refl refl refl refl) (λ b w m. both_ways (right-bad b w text m 141) (coordinate-fault 140 Empty w))
-  row-y LeadingZero = told-y 142 (SaysSigned (Wrong LeadingZero)) (λ q. omega arith) (second-quiet lim refl refl refl refl) (third-quiet lim refl refl refl refl refl) (λ b w m. both_ways (right-bad b w text m 142) (coordinate-fault 140 LeadingZero w))
-  row-y NotDigit = told-y 143 (SaysSigned (Wrong NotDigit)) (λ q. omega arith) (second-quiet lim refl refl refl refl) (third-quiet lim refl refl refl refl refl) (λ b w m. both_ways (right-bad b w text m 143) (coordinate-fault 140 NotDigit w))
-  row-y OutOfRange = told-y 144 (SaysSigned (Wrong OutOfRange)) (λ q. omega arith) (second-quiet lim refl refl refl refl) (third-quiet lim refl refl refl refl refl) (λ b w m. both_ways (right-bad b w text m 144) (coordinate-fault 140 OutOfRange w))
+  pub row-y : (f : Fault) → ((reading text name pixels).answer ≡ unplaced (140 + fault_number f)) ↔ BadY lim (SaysSigned (Err f)) text
+  row-y Empty = told-y 141 (SaysSigned (Err Empty)) (λ q. omega arith) (second-quiet lim refl refl refl refl) (third-quiet lim refl refl refl refl refl) (λ b w m. both_ways (right-bad b w text m 141) (coordinate-fault 140 Empty w))
+  row-y LeadingZero = told-y 142 (SaysSigned (Err LeadingZero)) (λ q. omega arith) (second-quiet lim refl refl refl refl) (third-quiet lim refl refl refl refl refl) (λ b w m. both_ways (right-bad b w text m 142) (coordinate-fault 140 LeadingZero w))
+  row-y NotDigit = told-y 143 (SaysSigned (Err NotDigit)) (λ q. omega arith) (second-quiet lim refl refl refl refl) (third-quiet lim refl refl refl refl refl) (λ b w m. both_ways (right-bad b w text m 143) (coordinate-fault 140 NotDigit w))
+  row-y OutOfRange = told-y 144 (SaysSigned (Err OutOfRange)) (λ q. omega arith) (second-quiet lim refl refl refl refl) (third-quiet lim refl refl refl refl refl) (λ b w m. both_ways (right-bad b w text m 144) (coordinate-fault 140 OutOfRange w))
 
   -- a `#` stands after the height line
   pub hash : (a : Three) (m : TextLocation) → At (Both lim a) Any text start m → Next 35 (rest_at text m) ↔ Begun (Both lim a · Lit "#") text

@@ -1,13 +1,9 @@
 -- A token that is refused with a fault's number has that fault, in its own words.
-use Rattle.std.specs.Prelude.{◌≡◌, refl, ◌↔◌, ℕ, zero, suc, ◌+◌, List}
+use Rattle.std.specs.Prelude.{◌≡◌, refl, ◌↔◌, ℕ, zero, suc, ◌+◌, List, ℤ, Result, Ok, Err}
 use Rattle.std.proofs.Common.{sym, ap, ◌∙◌, arith}
 use Rattle.std.proofs.Math.Option.{none}
 use Rattle.integer.specs.declared.Fault.{Fault}
 use Rattle.integer.specs.declared.Fault.TheVariants.{Empty, LeadingZero, NotDigit, OutOfRange}
-use Rattle.integer.specs.declared.Unsigned.{Unsigned}
-use Rattle.integer.specs.declared.Unsigned.TheVariants.{Value, Bad}
-use Rattle.integer.specs.declared.Signed.{Signed}
-use Rattle.integer.specs.declared.Signed.TheVariants.{Number, Wrong}
 use Rattle.integer.specs.Decimal.{parse_u32, parse_i32, unsigned_of, signed_of, fault_number, unsigned_fault, signed_fault}
 use Rattle.grammar.proofs.Tests.{number, integer}
 use Rattle.faults.specs.Terms.{Says, SaysSigned}
@@ -32,17 +28,17 @@ one-fault : (f g : Fault) → fault_number f ≡ fault_number g → f ≡ g
 one-fault f g q = sym (fault-back f) ∙ ap fault_at q ∙ fault-back g
 
 -- a side's token that is refused with the fault's number has it, in its own words
-pub side-fault : (c : ℕ) (f : Fault) (w : List ℕ) → ((number w ≡ none) × (c + unsigned_fault (parse_u32 w) ≡ c + fault_number f)) ↔ Says (Bad f) w
-side-fault c f w = both_ways (there (parse_u32 w), λ q. (ap unsigned_of q, ap (λ (u : Unsigned). c + unsigned_fault u) q)) (sides w (Bad f))
+pub side-fault : (c : ℕ) (f : Fault) (w : List ℕ) → ((number w ≡ none) × (c + unsigned_fault (parse_u32 w) ≡ c + fault_number f)) ↔ Says (Err f) w
+side-fault c f w = both_ways (there (parse_u32 w), λ q. (ap unsigned_of q, ap (λ (u : Result ℕ Fault). c + unsigned_fault u) q)) (sides w (Err f))
   where
-    there : (u : Unsigned) → (unsigned_of u ≡ none) × (c + unsigned_fault u ≡ c + fault_number f) → u ≡ Bad f
-    there (Value n) (p, q) = let z : ◌≡◌ {A = ℕ} 0 1 = cc in absurd (omega arith)
-    there (Bad g) (p, q) = ap (λ (k : Fault). Bad k) (one-fault g f (omega arith))
+    there : (u : Result ℕ Fault) → (unsigned_of u ≡ none) × (c + unsigned_fault u ≡ c + fault_number f) → u ≡ Err f
+    there (Ok n) (p, q) = let z : ◌≡◌ {A = ℕ} 0 1 = cc in absurd (omega arith)
+    there (Err g) (p, q) = ap (λ (k : Fault). Err k) (one-fault g f (omega arith))
 
 -- a coordinate's token that is refused with the fault's number has it, in its own words
-pub coordinate-fault : (c : ℕ) (f : Fault) (w : List ℕ) → ((integer w ≡ none) × (c + signed_fault (parse_i32 w) ≡ c + fault_number f)) ↔ SaysSigned (Wrong f) w
-coordinate-fault c f w = both_ways (there (parse_i32 w), λ q. (ap signed_of q, ap (λ (u : Signed). c + signed_fault u) q)) (coordinates w (Wrong f))
+pub coordinate-fault : (c : ℕ) (f : Fault) (w : List ℕ) → ((integer w ≡ none) × (c + signed_fault (parse_i32 w) ≡ c + fault_number f)) ↔ SaysSigned (Err f) w
+coordinate-fault c f w = both_ways (there (parse_i32 w), λ q. (ap signed_of q, ap (λ (u : Result ℤ Fault). c + signed_fault u) q)) (coordinates w (Err f))
   where
-    there : (u : Signed) → (signed_of u ≡ none) × (c + signed_fault u ≡ c + fault_number f) → u ≡ Wrong f
-    there (Number z) (p, q) = let x : ◌≡◌ {A = ℕ} 0 1 = cc in absurd (omega arith)
-    there (Wrong g) (p, q) = ap (λ (k : Fault). Wrong k) (one-fault g f (omega arith))
+    there : (u : Result ℤ Fault) → (signed_of u ≡ none) × (c + signed_fault u ≡ c + fault_number f) → u ≡ Err f
+    there (Ok z) (p, q) = let x : ◌≡◌ {A = ℕ} 0 1 = cc in absurd (omega arith)
+    there (Err g) (p, q) = ap (λ (k : Fault). Err k) (one-fault g f (omega arith))

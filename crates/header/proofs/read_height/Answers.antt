@@ -13,9 +13,9 @@ pub returns-else-height-eq0 : goal.returns-else-height-eq0
 unfolding height_of
 returns-else-height-eq0 c = search (size_laws, shown_laws, rules)
 
-pub returns-in-Bad : goal.returns-in-Bad
+pub returns-in-Err : goal.returns-in-Err
 unfolding height_of
-returns-in-Bad c = search (size_laws, shown_laws, rules)
+returns-in-Err c = search (size_laws, shown_laws, rules)
 
 pub returns-in-Refused : goal.returns-in-Refused
 unfolding height_of

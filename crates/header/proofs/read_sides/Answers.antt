@@ -13,9 +13,9 @@ pub returns-else-width-eq0 : goal.returns-else-width-eq0
 unfolding sides_of
 returns-else-width-eq0 c = search (size_laws, shown_laws, rules)
 
-pub returns-in-Bad : goal.returns-in-Bad
+pub returns-in-Err : goal.returns-in-Err
 unfolding sides_of
-returns-in-Bad c = search (size_laws, shown_laws, rules)
+returns-in-Err c = search (size_laws, shown_laws, rules)
 
 pub returns-in-Refused : goal.returns-in-Refused
 unfolding sides_of

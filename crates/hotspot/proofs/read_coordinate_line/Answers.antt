@@ -5,13 +5,13 @@ use Rattle.lines.proofs.Laws.{size_laws}
 use Rattle.hotspot.specs.Hotspot.{coordinate_line}
 use Rattle.hotspot.proofs.read_coordinate_line.Goals as goal
 
-pub returns-in-Number : goal.returns-in-Number
+pub returns-in-Ok : goal.returns-in-Ok
 unfolding coordinate_line
-returns-in-Number c = search (size_laws, hotspot_laws, rules)
+returns-in-Ok c = search (size_laws, hotspot_laws, rules)
 
-pub returns-in-Wrong : goal.returns-in-Wrong
+pub returns-in-Err : goal.returns-in-Err
 unfolding coordinate_line
-returns-in-Wrong c = search (size_laws, hotspot_laws, rules)
+returns-in-Err c = search (size_laws, hotspot_laws, rules)
 
 pub returns-in-Refused : goal.returns-in-Refused
 unfolding coordinate_line
