@@ -4,17 +4,12 @@ use native.Mathlib.Omega.{arith}
 use mathlib.Core.Path.{◌≡◌}
 use mir.Syntax.{w32}
 use mir.Val.{Fits}
-use Rattle.text.specs.declared.TextLocation.{TextLocation}
 use Rattle.lexical.specs.declared.XbmPart.{XbmPart}
 use Rattle.lexical.specs.Lexical.{number}
 use Rattle.lexical.proofs.Laws.{number_small}
 use Rattle.integer.specs.declared.Fault.{Fault}
 use Rattle.integer.specs.declared.Fault.TheVariants.{Empty, LeadingZero, NotDigit, OutOfRange}
 use Rattle.integer.specs.Decimal.{fault_number}
-use Rattle.error.specs.Error.{integer_number, refusal_of}
-use Rattle.error.specs.declared.XbmDecodeError.{XbmDecodeError}
-use Rattle.error.specs.declared.XbmDecodeError.TheVariants.{Parse, DecodeInteger}
-use Rattle.error.specs.declared.Refusal.TheVariants.{Placed, Unplaced}
 
 -- no step of a sum such as makes an integer's number leaves its type
 fault-small : (f : Fault) → fault_number f ≤ 4
@@ -34,12 +29,3 @@ module _ (part : XbmPart) {n : ℕ} (e : n ≡ number part) where
   integer-fits l f h = record { fits = omega (arith, number_small part, fault-small f) }
 
 pub ruleset integer_laws = (tens-fit, hundred-fits, integer-fits)
-
-module _ {e : XbmDecodeError} where
-  pub refusal-parse : (part : XbmPart) {n : ℕ} {p : TextLocation} → e ≡ Parse part p → n ≡ number part → Placed n p ≡ refusal_of e
-  refusal-parse part h k = rw (h, k)
-
-  pub refusal-integer : (part : XbmPart) (f : Fault) {n : ℕ} → e ≡ DecodeInteger part f → n ≡ integer_number part f → Unplaced n ≡ refusal_of e
-  refusal-integer part f h k = rw (h, k)
-
-pub ruleset refusal_laws = (refusal-parse, refusal-integer)

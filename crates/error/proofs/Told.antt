@@ -6,10 +6,9 @@ use mathlib.Core.List.{List}
 use Rattle.text.specs.declared.TextLocation.{TextLocation}
 use Rattle.text.specs.Reader.{Result, ok, stop, bad, Reader, then, ◌>>=◌}
 use Rattle.text.specs.Outcome.{Outcome, accepted, refused, unplaced, Ended, ending_at, shown}
-use Rattle.error.specs.Error.{refusal_of, told_refusal, told_error}
+use Rattle.std.specs.Prelude.{Option, Some, None}
+use Rattle.error.specs.Error.{error_number, place_of_error, told_at, told_error}
 use Rattle.error.specs.declared.XbmDecodeError.{XbmDecodeError}
-use Rattle.error.specs.declared.Refusal.{Refusal}
-use Rattle.error.specs.declared.Refusal.TheVariants.{Placed, Unplaced}
 
 -- what is told of a reading that goes on, of what is told of its first part
 abbrev on_told : {A B : Type 0} → Outcome (Ended A) → (A → TextLocation → Outcome B) → Outcome B
@@ -24,34 +23,34 @@ shown-then (bad c e) k = refl
 
 -- an error is no acceptance
 pub error-never : {A C : Type 0} (x : XbmDecodeError) {a : A} → told_error x ≡ accepted a → C
-error-never {A} {C} x {a} = go (refusal_of x)
+error-never {A} {C} x {a} = go (error_number x) (place_of_error x)
   where
-    go : (r : Refusal) → told_refusal r ≡ accepted a → C
-    go (Placed c q) w = let z : ◌≡◌ {A = ℕ} 0 1 = cc in absurd (omega arith)
-    go (Unplaced c) w = let z : ◌≡◌ {A = ℕ} 0 1 = cc in absurd (omega arith)
+    go : (n : ℕ) (o : Option TextLocation) → told_at n o ≡ accepted a → C
+    go n (Some q) w = let z : ◌≡◌ {A = ℕ} 0 1 = cc in absurd (omega arith)
+    go n None w = let z : ◌≡◌ {A = ℕ} 0 1 = cc in absurd (omega arith)
 
 -- it is told alike, whatever was to be read
 module _ {A B : Type 0} (x : XbmDecodeError) {c : ℕ} where
   pub error-placed : {p : TextLocation} → told_error {A = A} x ≡ refused c p → told_error {A = B} x ≡ refused c p
-  error-placed {p} = go (refusal_of x)
+  error-placed {p} = go (error_number x) (place_of_error x)
     where
-      go : (r : Refusal) → told_refusal {A = A} r ≡ refused c p → told_refusal {A = B} r ≡ refused c p
-      go (Placed d q) w = cc
-      go (Unplaced d) w = let z : ◌≡◌ {A = ℕ} 0 1 = cc in absurd (omega arith)
+      go : (n : ℕ) (o : Option TextLocation) → told_at {A = A} n o ≡ refused c p → told_at {A = B} n o ≡ refused c p
+      go n (Some q) w = cc
+      go n None w = let z : ◌≡◌ {A = ℕ} 0 1 = cc in absurd (omega arith)
 
   pub error-unplaced : told_error {A = A} x ≡ unplaced c → told_error {A = B} x ≡ unplaced c
-  error-unplaced = go (refusal_of x)
+  error-unplaced = go (error_number x) (place_of_error x)
     where
-      go : (r : Refusal) → told_refusal {A = A} r ≡ unplaced c → told_refusal {A = B} r ≡ unplaced c
-      go (Placed d q) w = let z : ◌≡◌ {A = ℕ} 0 1 = cc in absurd (omega arith)
-      go (Unplaced d) w = cc
+      go : (n : ℕ) (o : Option TextLocation) → told_at {A = A} n o ≡ unplaced c → told_at {A = B} n o ≡ unplaced c
+      go n (Some q) w = let z : ◌≡◌ {A = ℕ} 0 1 = cc in absurd (omega arith)
+      go n None w = cc
 
 on-error : {A B : Type 0} (x : XbmDecodeError) (k : A → TextLocation → Outcome B) → told_error x ≡ on_told (told_error x) k
-on-error x k = go (refusal_of x)
+on-error x k = go (error_number x) (place_of_error x)
   where
-    go : (r : Refusal) → told_refusal r ≡ on_told (told_refusal r) k
-    go (Placed c q) = refl
-    go (Unplaced c) = refl
+    go : (n : ℕ) (o : Option TextLocation) → told_at n o ≡ on_told (told_at n o) k
+    go n (Some q) = refl
+    go n None = refl
 
 module _ {A B : Type 0} (p : Reader A) (f : A → Reader B) (t : List ℕ) (i : TextLocation) {z : Outcome (Ended B)} where
   pub show-accepted : {a : A} {q : TextLocation} → accepted (ending_at a q) ≡ shown (p t i) → z ≡ shown (f a t q) → z ≡ shown ((p >>= f) t i)
