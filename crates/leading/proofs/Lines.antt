@@ -12,9 +12,9 @@ use mathlib.Core.Bool.{Bool, true, false}
 use lib.ListN.{length, drop, get_or, drop_of_length-le, length-drop}
 use lib.Seq.{drop-cons}
 use lib.Dec.{eqb, ltb}
+use Rattle.std.specs.Prelude.{Option as Taken, Some, None, Result as Answer, Ok, Err}
 use Rattle.text.specs.declared.TextLocation.{TextLocation}
-use Rattle.text.specs.declared.Peeked.{Peeked}
-use Rattle.text.specs.declared.Peeked.TheVariants.{Found, Nothing}
+use Rattle.lexical.specs.declared.ParseError.{ParseError}
 use Rattle.text.specs.Place.{pick, has_left, along_line, past_line, rest, after, past, byte_of, peeked, peeked_at}
 use Rattle.text.specs.Rest.{Sound, newlines}
 use Rattle.text.proofs.Rest.{after-rest}
@@ -22,8 +22,6 @@ use Rattle.text.proofs.PlaceLaws.{sound-rest, left-inside, left-none, along-past
 use Rattle.text.specs.Reader.{Result, ok, stop, then, ◌>>=◌}
 use Rattle.text.specs.Leaf.{one, run, scan}
 use Rattle.lexical.specs.declared.XbmPart.{XbmPart}
-use Rattle.lexical.specs.declared.Passed.{Passed}
-use Rattle.lexical.specs.declared.Passed.TheVariants.{To, Refused}
 use Rattle.lexical.specs.Lexical.{number, told, byte, skip, lead, leading}
 use Rattle.leading.specs.Line.{line_of, in_line, line_rest}
 
@@ -135,7 +133,7 @@ lead-line c t (b ∷ l) i e = go (eqb b 10) refl (lead-line c t l (after b i) (a
     go true h ih = rw (line-newline c t i b e h, e, h, after-rest t i e)
     go false h ih = rw (line_other c t i b e h, e, h) (rw (after-rest t i e) at ih)
 
-found : (t : List ℕ) (i : TextLocation) {r : Peeked} {b : ℕ} → r ≡ peeked_at t i → r ≡ Found b → (l : List ℕ) × (rest t i ≡ b ∷ l)
+found : (t : List ℕ) (i : TextLocation) {r : Taken ℕ} {b : ℕ} → r ≡ peeked_at t i → r ≡ Some b → (l : List ℕ) × (rest t i ≡ b ∷ l)
 found t i {r} {b} e m = go (rest t i) refl e
   where
     go : (l : List ℕ) → rest t i ≡ l → r ≡ peeked l → (k : List ℕ) × (rest t i ≡ b ∷ k)
@@ -143,12 +141,12 @@ found t i {r} {b} e m = go (rest t i) refl e
     go (x ∷ l) h u = let y : x ≡ b = cc in (l, h ∙ ap (λ (n : ℕ). n ∷ l) y)
 
 -- z is what skipping all lines gives
-module _ (c : ℕ) (t : List ℕ) (i : TextLocation) {z : Result (Unit {0})} {r : Peeked} (e : r ≡ peeked_at t i) where
-  pub lines-found : {b : ℕ} → r ≡ Found b → b ≡ 35 → leading c true t i ≡ z → ok tt i ≡ z
+module _ (c : ℕ) (t : List ℕ) (i : TextLocation) {z : Result (Unit {0})} {r : Taken ℕ} (e : r ≡ peeked_at t i) where
+  pub lines-found : {b : ℕ} → r ≡ Some b → b ≡ 35 → leading c true t i ≡ z → ok tt i ≡ z
   unfolding leading run
   lines-found {b} m h k = let (l, f) = found t i e m in rw (f, eq-eqb b 35 h) at k
 
-  pub lines_none : r ≡ Nothing → leading c true t i ≡ z → stop c i ≡ z
+  pub lines_none : r ≡ None → leading c true t i ≡ z → stop c i ≡ z
   unfolding leading run
   lines_none m k = go (rest t i) e k
     where
@@ -156,16 +154,19 @@ module _ (c : ℕ) (t : List ℕ) (i : TextLocation) {z : Result (Unit {0})} {r 
       go [] u k = k
       go (x ∷ l) u k = let y : ◌≡◌ {A = ℕ} 0 1 = cc in absurd (omega arith)
 
-  skipped : {b : ℕ} → r ≡ Found b → (b ≡ 35 → ⊥) → leading c true t i ≡ z → then (line_rest c t i) (λ a e. leading c true t e) ≡ z
+  skipped : {b : ℕ} → r ≡ Some b → (b ≡ 35 → ⊥) → leading c true t i ≡ z → then (line_rest c t i) (λ a e. leading c true t e) ≡ z
   unfolding leading run
   skipped {b} m h k = let (l, f) = found t i e m in sym (lead-line c t (b ∷ l) i f) ∙ rw f (rw (f, ne_eqb b 35 h) at k)
 
-  module _ {b : ℕ} (m : r ≡ Found b) (h : b ≡ 35 → ⊥) {s : Passed} (g : told s ≡ line_rest c t i) (k : leading c true t i ≡ z) where
-    pub lines-on : {q : TextLocation} → s ≡ To q → leading c true t q ≡ z
+  module _ {b : ℕ} (m : r ≡ Some b) (h : b ≡ 35 → ⊥) {s : Answer TextLocation ParseError} (g : told s ≡ line_rest c t i) (k : leading c true t i ≡ z) where
+    pub lines-on : {q : TextLocation} → s ≡ Ok q → leading c true t q ≡ z
     lines-on {q} n = ap (λ (x : Result (Unit {0})). then x (λ a e. leading c true t e)) (sym (ap told n) ∙ g) ∙ skipped m h k
 
-    pub lines_end : {part : XbmPart} {q : TextLocation} → s ≡ Refused part q → stop (number part) q ≡ z
-    lines_end {part} {q} n = ap (λ (x : Result (Unit {0})). then x (λ a e. leading c true t e)) (sym (ap told n) ∙ g) ∙ skipped m h k
+    lines-stop : {x : ParseError} → s ≡ Err x → stop (number x.part) x.place ≡ z
+    lines-stop n = ap (λ (x : Result (Unit {0})). then x (λ a e. leading c true t e)) (sym (ap told n) ∙ g) ∙ skipped m h k
+
+    pub lines_end : {x : ParseError} {d : Answer TextLocation ParseError} → s ≡ Err x → d ≡ Err x → told d ≡ z
+    lines_end n v = rw v (lines-stop n)
 
 -- a line skipped leaves fewer bytes
 line-less : (c : ℕ) (t l : List ℕ) (i q : TextLocation) → rest t i ≡ l → ok tt q ≡ line_rest c t i → length (rest t q) < length l
@@ -176,7 +177,7 @@ line-less c t (b ∷ l) i q e h = go (eqb b 10) refl (λ u. line-less c t l (aft
     go true y ih = let z : ok tt q ≡ ok tt (after b i) = h ∙ line-newline c t i b e y in let w : q ≡ after b i = cc in rw (w, after-rest t i e) (omega arith)
     go false y ih = let a : length (rest t q) < length l = ih (h ∙ line_other c t i b e y) in omega arith
 
-pub lines-less : (c : ℕ) (t : List ℕ) (i : TextLocation) {s : Passed} {q : TextLocation} → told s ≡ line_rest c t i → s ≡ To q → length (rest t q) < length (rest t i)
+pub lines-less : (c : ℕ) (t : List ℕ) (i : TextLocation) {s : Answer TextLocation ParseError} {q : TextLocation} → told s ≡ line_rest c t i → s ≡ Ok q → length (rest t q) < length (rest t i)
 lines-less c t i {s} {q} g n = line-less c t (rest t i) i q refl (sym (ap told n) ∙ g)
 
 pub ruleset line_laws = (line-none, line-to, line-out)

@@ -5,8 +5,8 @@ ghost use Rattle.std.specs.Prelude.{true, ◌≡◌, ◌+◌, length, drop};
 ghost use Rattle.lexical.specs.Lexical.{number, told, leading};
 ghost use Rattle.leading.specs.Line.{line_of, line_rest};
 
-use lexical::{Passed, XbmPart};
-use text::{Peeked, TextLocation, along, has_left, past_line, peek};
+use lexical::{ParseError, XbmPart};
+use text::{TextLocation, along, has_left, past_line, peek};
 
 // The first newline at or after `from`, or the end.
 fn line_end(text: &[u8], from: usize) -> usize
@@ -23,7 +23,7 @@ fn line_end(text: &[u8], from: usize) -> usize
 }
 
 // The rest of a line, with its newline.
-fn skip_line(text: &[u8], place: TextLocation, part: XbmPart) -> Passed
+fn skip_line(text: &[u8], place: TextLocation, part: XbmPart) -> Result<TextLocation, ParseError>
     ensures { told result ≡ line_rest (number part) text.now place }
 {
     if has_left(text, place, 1) {
@@ -31,32 +31,28 @@ fn skip_line(text: &[u8], place: TextLocation, part: XbmPart) -> Passed
         let end = line_end(text, from);
         let size = (end - from) as u64;
         if end < text.len() {
-            return Passed::To(past_line(place, size));
+            return Ok(past_line(place, size));
         }
-        return Passed::Refused(part, along(place, size));
+        let place = along(place, size);
+        return Err(ParseError { part, place });
     }
-    Passed::Refused(part, place)
+    Err(ParseError { part, place })
 }
 
 // Skip whole lines, up to the first that begins with `#`.
-pub fn skip_non_define_lines(text: &[u8], place: TextLocation, part: XbmPart) -> Passed
+pub fn skip_non_define_lines(
+    text: &[u8],
+    place: TextLocation,
+    part: XbmPart,
+) -> Result<TextLocation, ParseError>
     ensures { told result ≡ leading (number part) true text.now place }
 {
     let mut at = place;
-    loop {
-        match peek(text, at) {
-            Peeked::Found(b) => {
-                if b == b'#' {
-                    return Passed::To(at);
-                }
-            }
-            Peeked::Nothing => return Passed::Refused(part, at),
+    while let Some(b) = peek(text, at) {
+        if b == b'#' {
+            return Ok(at);
         }
-        match skip_line(text, at, part) {
-            Passed::To(next) => {
-                at = next;
-            }
-            Passed::Refused(q, end) => return Passed::Refused(q, end),
-        }
+        at = skip_line(text, at, part)?;
     }
+    Err(ParseError { part, place: at })
 }
