@@ -52,6 +52,15 @@ module _ {B : Type 0} (p : Reader (Unit {0})) (f : Unit {0} → Reader B) (t : L
 pub refused-as : {A : Type 0} {r : Answer A ParseError} {x : ParseError} → IsErrAnd r (λ e. e ≡ x) → r ≡ Err x
 refused-as {A} {r} {x} h = let p = err_from_is_err_and {Q = λ e. e ≡ x} r h in p.1 ∙ ap (λ e. Err e) p.2
 
+pub told-err : {r : Answer TextLocation ParseError} {x : ParseError} → r ≡ Err x → told r ≡ stop (number x.part) x.place
+told-err h = rw h
+
+pub byte-err : {r : Answer (ℕ × TextLocation) ParseError} {x : ParseError} → r ≡ Err x → told_byte r ≡ stop (number x.part) x.place
+byte-err h = rw h
+
+-- a row of readings, each handed on by `?`
+pub ruleset chain_laws = (told-err, byte-err, bind_laws)
+
 module _ {B : Type 0} (p : Reader (Unit {0})) (f : Unit {0} → Reader B) (t : List ℕ) (i : TextLocation) {m : Answer TextLocation ParseError} (e : told m ≡ p t i) {x : ParseError} (h : m ≡ Err x) where
   pub exit-to : {r : Answer TextLocation ParseError} (g : Unit {0} → Reader (Unit {0})) → r ≡ Err x → told r ≡ (p >>= g) t i
   exit-to g k = rw k (bind-stop p g t i (told-refused e h) refl)

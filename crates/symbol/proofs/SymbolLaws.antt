@@ -1,5 +1,4 @@
 -- The theorems about what specs/Symbol.antt defines.
-use Rattle.std.specs.Prelude.{◌-◌}
 use Rattle.text.specs.Reader.{Local, Mild}
 use Rattle.lexical.proofs.Lexical.{locals, milds, gap-local, gap-mild, leading-local, leading-mild}
 use Rattle.symbol.specs.Symbol.{opening}

@@ -1,12 +1,13 @@
 -- The width's symbol, a name and `_width`: what precedes it, the name in it, and the bytes that reading it stores.
-use Rattle.std.specs.Prelude.{ℕ, ◌-◌, ◌≤◌, ◌≡◌, Bool, true, false, List, [], ◌∷◌, length, take, drop, leb, eqb}
+use Rattle.std.specs.Prelude.{ℕ, ◌-◌, ◌≤◌, ◌≡◌, Bool, true, false, List, [], ◌∷◌, length, take, drop, leb, eqb, Result as Answer}
 use Rattle.std.proofs.Math.Option.{Option, none, some}
 use Rattle.text.specs.Ascii.{ascii}
 use Rattle.text.specs.Place.{pick, start}
 use Rattle.text.specs.Reader.{Result, ok, stop, bad, end_of, Reader, ◌>>=◌, ◌>>◌}
 use Rattle.text.specs.Leaf.{want}
 use Rattle.lexical.specs.Lexical.{is_loose, fixed, gap, leading}
-use Rattle.lexical.specs.declared.Token.{Token}
+use Rattle.text.specs.declared.TextLocation.{TextLocation}
+use Rattle.lexical.specs.declared.ParseError.{ParseError}
 use Rattle.lexical.specs.Token.{token, span, overlay, told_token, size_of}
 
 -- ---- words
@@ -50,7 +51,7 @@ unfoldable pub stored : ℕ → List ℕ → List ℕ
 stored limit t = stored_in limit t (opening t start)
 
 -- reading the width's symbol into a lent buffer: the name in it, within the buffer; and the buffer later
-pub record Symboled (text lent later : List ℕ) (r : Token) : Type 0 where
+pub record Symboled (text lent later : List ℕ) (r : Answer (ℕ × TextLocation) ParseError) : Type 0 where
   pub answer : told_token later r ≡ width_symbol (length lent) text start
   pub fits : size_of r ≤ length later
   pub symbol : later ≡ overlay (stored (length lent) text) lent
