@@ -92,6 +92,14 @@ storing-full ends part s buf₀ p₀ buf p n i e m h k l =
 
 pub ruleset storing_laws = (storing-more, storing-stop, storing-end, storing-full)
 
+-- a refusal handed on by `?`
+module _ {r : Answer (ℕ × TextLocation) ParseError} {x : ParseError} (h : r ≡ Err x) where
+  pub token-err : (held : List ℕ) → told_token held r ≡ stop (number x.part) x.place
+  token-err held = rw h
+
+  pub size-err : (n : ℕ) → size_of r ≤ n
+  size-err n = rw h (omega arith)
+
 -- a token's answer that is matched on
 module _ {ends : ℕ → Bool} (c : ℕ) {s : List ℕ} {p : TextLocation} {buf later : List ℕ} {m : Answer (ℕ × TextLocation) ParseError} (e : Tokened ends c s p buf later m) where
   pub token-fits : {n : ℕ} {q : TextLocation} → m ≡ Ok (n, q) → n ≤ length later
@@ -107,4 +115,4 @@ module _ {ends : ℕ → Bool} (c : ℕ) {s : List ℕ} {p : TextLocation} {buf 
     pub pass-long : {x : ParseError} → m ≡ Err x → z ≡ stop (number x.part) x.place → z ≡ (token ends c lim >>= f) s p
     pass-long h k = bind-stop (token ends c lim) f s p (rw (h, size) at e.answer) k
 
-pub ruleset token_laws = (token-fits, token-size, pass-read, pass-long)
+pub ruleset token_laws = (token-fits, token-size, pass-read, pass-long, token-err, size-err)

@@ -5,38 +5,34 @@ use mathlib.Core.Path.{◌≡◌, sym}
 use mathlib.Core.List.{List}
 use lib.ListN.{length, take}
 use lib.Seq.{length-take-le}
+use Rattle.std.specs.Prelude.{Result as Answer, Ok, Err}
 use Rattle.text.specs.declared.TextLocation.{TextLocation}
+use Rattle.lexical.specs.declared.ParseError.{ParseError}
 use Rattle.text.specs.Reader.{◌>>=◌}
 use Rattle.text.specs.Leaf.{give}
-use Rattle.text.proofs.Reading.{give-ok}
-use Rattle.lexical.specs.declared.XbmPart.{XbmPart}
-use Rattle.lexical.specs.declared.Passed.{Passed}
-use Rattle.lexical.specs.declared.Passed.TheVariants.{To, Refused as Stopped}
-use Rattle.lexical.specs.declared.Token.{Token}
-use Rattle.lexical.specs.declared.Token.TheVariants.{Read, Refused as Long}
+use Rattle.text.proofs.Reading.{bind_laws}
 use Rattle.lexical.specs.Lexical.{told}
 use Rattle.lexical.specs.Token.{size_of}
-use Rattle.lexical.proofs.Laws.{pass-to, pass-refused}
 use Rattle.lexical.proofs.Tokens.{token_laws}
 use Rattle.lines.specs.Lines.{value, symbol, define_line, Got}
 
 -- an integer's token and the line's end
-pub ruleset value_laws = (pass-to, pass-refused, give-ok, token_laws)
+pub ruleset value_laws = (bind_laws, token_laws)
 
 -- a define line: its symbol, and then its token
-module _ (c : ℕ) (name z t : List ℕ) (i : TextLocation) (later : List ℕ) {m : Passed} (e : told m ≡ symbol c name z t i) where
-  pub define-to : {p : TextLocation} {r : Token} → m ≡ To p → Got (value c give) t p later r → Got (define_line c name z) t i later r
+module _ (c : ℕ) (name z t : List ℕ) (i : TextLocation) (later : List ℕ) {m : Answer TextLocation ParseError} (e : told m ≡ symbol c name z t i) where
+  pub define-to : {p : TextLocation} {r : Answer (ℕ × TextLocation) ParseError} → m ≡ Ok p → Got (value c give) t p later r → Got (define_line c name z) t i later r
   unfolding define_line ◌>>=◌
   define-to h k = record { answer = rw (← e, h) k.answer; fits = k.fits }
 
-  pub define-refused : {part : XbmPart} {q : TextLocation} → m ≡ Stopped part q → Got (define_line c name z) t i later (Long part q)
+  pub define-refused : {x : ParseError} {r : Answer (ℕ × TextLocation) ParseError} → m ≡ Err x → r ≡ Err x → Got (define_line c name z) t i later r
   unfolding define_line ◌>>=◌
-  define-refused h = record { answer = rw (← e, h); fits = omega arith }
+  define-refused h k = rw k (record { answer = rw (← e, h); fits = omega arith })
 
 pub ruleset define_laws = (define-to, define-refused)
 
 -- what was stored is within the buffer
-module _ (m : Token) (later : List ℕ) (e : size_of m ≤ length later) {n : ℕ} {q : TextLocation} (h : m ≡ Read n q) where
+module _ (m : Answer (ℕ × TextLocation) ParseError) (later : List ℕ) (e : size_of m ≤ length later) {n : ℕ} {q : TextLocation} (h : m ≡ Ok (n, q)) where
   pub size_fits : n ≤ length later
   size_fits = rw h at e
 

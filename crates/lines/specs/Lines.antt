@@ -1,5 +1,5 @@
 -- The lines of a header: an integer's, one whose symbol is known, the width line, the line that opens the array.
-use Rattle.std.specs.Prelude.{ℕ, ◌+◌, ◌≤◌, ◌≡◌, List, length, eqb, ℤ}
+use Rattle.std.specs.Prelude.{ℕ, ◌+◌, ◌≤◌, ◌≡◌, List, length, eqb, ℤ, Result as Answer}
 use Rattle.std.proofs.Math.Option.{Option, none, some}
 use Rattle.text.specs.declared.TextLocation.{TextLocation}
 use Rattle.text.specs.Ascii.{ascii}
@@ -7,7 +7,7 @@ use Rattle.text.specs.Place.{pick}
 use Rattle.text.specs.Reader.{Reader, ◌>>=◌, ◌>>◌}
 use Rattle.text.specs.Leaf.{give, want, need, fork}
 use Rattle.lexical.specs.Lexical.{is_loose, fixed, gap, line_end}
-use Rattle.lexical.specs.declared.Token.{Token}
+use Rattle.lexical.specs.declared.ParseError.{ParseError}
 use Rattle.lexical.specs.Token.{token, told_token, size_of}
 use Rattle.integer.specs.Decimal.{parse_u32, parse_i32, unsigned_of, signed_of, unsigned_fault, signed_fault}
 use Rattle.symbol.specs.Symbol.{hash_define, end_width, before}
@@ -52,9 +52,13 @@ width_line limit =
     fixed 1 hash_define >> gap 1 >> token is_loose 1 limit >>= λ s. want 1 (before end_width s) >>= λ name.
     value 1 (λ w. unsigned 110 w >>= λ v. need 21 (positive v) >>= λ n. give (name, n))
 
--- `char`, or `unsigned`, gap, `char`
+-- `unsigned`, gap, `char`
+abbrev pub unsigned_char : ℕ → Reader (Unit {0})
+unsigned_char c = fixed c (ascii "unsigned") >> gap c >> fixed c (ascii "char")
+
+-- `char`, or that
 unfoldable pub element : ℕ → Reader (Unit {0})
-element c = fork c 99 (fixed c (ascii "char")) 117 (fixed c (ascii "unsigned") >> gap c >> fixed c (ascii "char"))
+element c = fork c 99 (fixed c (ascii "char")) 117 (unsigned_char c)
 
 -- the line that opens the array
 unfoldable pub array_line : ℕ → List ℕ → Reader (Unit {0})
@@ -62,6 +66,6 @@ array_line c name =
     fixed c (ascii "static") >> gap c >> element c >> gap c >> fixed c name >> fixed c (ascii "_bits[]") >> gap c >> fixed c (ascii "=") >> gap c >> fixed c (ascii "{")
 
 -- reading a token into the digits: what p reads, within them
-pub record Got (p : Reader (List ℕ)) (text : List ℕ) (place : TextLocation) (later : List ℕ) (r : Token) : Type 0 where
+pub record Got (p : Reader (List ℕ)) (text : List ℕ) (place : TextLocation) (later : List ℕ) (r : Answer (ℕ × TextLocation) ParseError) : Type 0 where
   pub answer : told_token later r ≡ p text place
   pub fits : size_of r ≤ length later

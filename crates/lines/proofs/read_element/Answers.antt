@@ -1,22 +1,23 @@
 -- What the search leaves of `read_element`.
-use Rattle.std.proofs.Common.{rules}
+use Rattle.std.proofs.Common.{rules, arith, ◌≡◌}
 use Rattle.text.proofs.Reading.{fork_laws}
-use Rattle.lexical.proofs.Laws.{row_laws}
 use Rattle.lines.specs.Lines.{element}
 use Rattle.lines.proofs.read_element.Goals as goal
 
-pub returns-then-b-eq99 : goal.returns-then-b-eq99
+pub returns-in-Some-eq99-default : goal.returns-in-Some-eq99-default
 unfolding element
-returns-then-b-eq99 c = search (fork_laws, row_laws, rules)
+returns-in-Some-eq99-default c = search (fork_laws, rules)
 
-pub returns-then-b-eq117 : goal.returns-then-b-eq117
+pub returns-in-Some-eq117-default : goal.returns-in-Some-eq117-default
 unfolding element
-returns-then-b-eq117 c = search (fork_laws, row_laws, rules)
+returns-in-Some-eq117-default c =
+    let n : c.in-Some-eq117-default.field-0-0 ≡ 99 → ⊥ = λ e. omega arith in
+    search (fork_laws, n, rules)
 
-pub returns-else-b-eq117 : goal.returns-else-b-eq117
+pub returns-in-Some : goal.returns-in-Some
 unfolding element
-returns-else-b-eq117 c = search (fork_laws, row_laws, rules)
+returns-in-Some c = search (fork_laws, rules)
 
-pub returns-in-End : goal.returns-in-End
+pub returns-in-None : goal.returns-in-None
 unfolding element
-returns-in-End c = search (fork_laws, row_laws, rules)
+returns-in-None c = search (fork_laws, rules)
