@@ -1,7 +1,7 @@
 -- An error as document 01's number and place, and what is told of it.
-use Rattle.std.specs.Prelude.{ℕ, ◌+◌, ◌*◌, Option, Some, None}
+use Rattle.std.specs.Prelude.{ℕ, ◌+◌, ◌*◌, Option, Some, None, Result as Answer, Ok, Err}
 use Rattle.text.specs.declared.TextLocation.{TextLocation}
-use Rattle.text.specs.Outcome.{Outcome, refused, unplaced}
+use Rattle.text.specs.Outcome.{Outcome, accepted, refused, unplaced, Ended, ending_at}
 use Rattle.lexical.specs.Lexical.{number}
 use Rattle.lexical.specs.declared.ParseError.{ParseError}
 use Rattle.lexical.specs.declared.XbmPart.{XbmPart}
@@ -46,3 +46,8 @@ told_refusal r = told_at r.number r.place
 
 abbrev pub told_error : {A : Type 0} → XbmDecodeError → Outcome A
 told_error e = told_refusal (refusal_of e)
+
+-- what is told of an answer: a value and the place after it, or an error
+abbrev pub told_read : {A : Type 0} → Answer (A × TextLocation) XbmDecodeError → Outcome (Ended A)
+told_read (Ok r) = accepted (ending_at r.0 r.1)
+told_read (Err e) = told_error e

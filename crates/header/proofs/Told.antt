@@ -3,10 +3,8 @@ use Prim.Native.Nat.{ℕ, ◌+◌}
 use borrow.Author.Tests.{eq-eqb, ne_eqb}
 use mathlib.Core.Path.{◌≡◌, refl}
 use mathlib.Core.List.{List}
-use Rattle.std.specs.Prelude.{Result, Ok, Err}
+use Rattle.std.specs.Prelude.{Option as Taken, Some, Result, Ok, Err, None}
 use Rattle.text.specs.declared.TextLocation.{TextLocation}
-use Rattle.text.specs.declared.Took.{Took}
-use Rattle.text.specs.declared.Took.TheVariants.{Next, End}
 use Rattle.text.specs.Place.{took_at}
 use Rattle.text.specs.Reader.{Reader, ◌>>=◌}
 use Rattle.text.specs.Outcome.{Outcome, refused, unplaced, Ended, shown}
@@ -15,8 +13,12 @@ use Rattle.text.proofs.Reading.{fork-first, fork-second, fork-neither, fork-end}
 use Rattle.integer.specs.declared.Fault.{Fault}
 use Rattle.integer.specs.Decimal.{parse_u32, unsigned_of, unsigned_fault, fault_number}
 use Rattle.lines.specs.Lines.{positive}
+use Rattle.error.specs.declared.XbmDecodeError.{XbmDecodeError}
+use Rattle.error.specs.Error.{told_error}
+use Rattle.header.specs.declared.XbmHeaderData.{XbmHeaderData}
+use Rattle.header.specs.Answer.{told_header}
 use Rattle.lines.proofs.Told.{line_laws}
-use Rattle.hotspot.proofs.Told.{show-spot, show-no-spot}
+use Rattle.error.proofs.Told.{read_laws}
 
 -- an integer of a token; a side that must not be zero
 module _ {B : Type 0} (c : ℕ) (w : List ℕ) (f : ℕ → Reader B) (t : List ℕ) (i : TextLocation) {m : Result ℕ Fault} (e : m ≡ parse_u32 w) {z : Outcome (Ended B)} where
@@ -38,17 +40,21 @@ module _ {B : Type 0} (c n : ℕ) (f : ℕ → Reader B) (t : List ℕ) (i : Tex
   show-positive h k = rw (ne_eqb n 0 h) k
 
 -- a look at the next byte
-module _ {A : Type 0} (c x : ℕ) (p : Reader A) (y : ℕ) (q : Reader A) (t : List ℕ) (i : TextLocation) {r : Took} {z : Outcome (Ended A)} (e : r ≡ took_at t i) where
-  pub show-first : {b : ℕ} {n : TextLocation} → r ≡ Next b n → b ≡ x → z ≡ shown (p t i) → z ≡ shown (fork c x p y q t i)
+module _ {A : Type 0} (c x : ℕ) (p : Reader A) (y : ℕ) (q : Reader A) (t : List ℕ) (i : TextLocation) {r : Taken (ℕ × TextLocation)} {z : Outcome (Ended A)} (e : r ≡ took_at t i) where
+  pub show-first : {b : ℕ} {n : TextLocation} → r ≡ Some (b, n) → b ≡ x → z ≡ shown (p t i) → z ≡ shown (fork c x p y q t i)
   show-first m h k = rw (← fork-first c x p y q t i e m h refl) k
 
-  pub show-second : {b : ℕ} {n : TextLocation} → r ≡ Next b n → (b ≡ x → ⊥) → b ≡ y → z ≡ shown (q t i) → z ≡ shown (fork c x p y q t i)
+  pub show-second : {b : ℕ} {n : TextLocation} → r ≡ Some (b, n) → (b ≡ x → ⊥) → b ≡ y → z ≡ shown (q t i) → z ≡ shown (fork c x p y q t i)
   show-second m g h k = rw (← fork-second c x p y q t i e m g h refl) k
 
-  pub show-neither : {b : ℕ} {n : TextLocation} → r ≡ Next b n → (b ≡ x → ⊥) → (b ≡ y → ⊥) → z ≡ refused c n → z ≡ shown (fork c x p y q t i)
+  pub show-neither : {b : ℕ} {n : TextLocation} → r ≡ Some (b, n) → (b ≡ x → ⊥) → (b ≡ y → ⊥) → z ≡ refused c n → z ≡ shown (fork c x p y q t i)
   show-neither m g h k = rw (← fork-neither c x p y q t i e m g h refl) k
 
-  pub show-end : r ≡ End → z ≡ refused c i → z ≡ shown (fork c x p y q t i)
+  pub show-end : r ≡ None → z ≡ refused c i → z ≡ shown (fork c x p y q t i)
   show-end m k = rw (← fork-end c x p y q t i e m refl) k
 
-pub ruleset shown_laws = (line_laws, show-spot, show-no-spot, show-value, show-bad, show-zero, show-positive, show-first, show-second, show-neither, show-end)
+-- an error handed on by `?`
+pub header-err : (name : List ℕ) {r : Result (XbmHeaderData × TextLocation) XbmDecodeError} {x : XbmDecodeError} → r ≡ Err x → told_header name r ≡ told_error x
+header-err name h = rw h
+
+pub ruleset shown_laws = (line_laws, read_laws, header-err, show-value, show-bad, show-zero, show-positive, show-first, show-second, show-neither, show-end)

@@ -3,41 +3,29 @@
 
 ghost use Rattle.std.specs.Prelude.{◌≡◌};
 ghost use Rattle.text.specs.Outcome.{shown};
-ghost use Rattle.header.specs.Answer.{hot_of, told_header, ending_of, rest_of, height_of, sides_of, Headed};
+ghost use Rattle.header.specs.Answer.{hot_of, told_header, ending_of, spot_ending, rest_of, height_of, sides_of, Headed};
 
 use error::XbmDecodeError;
-use hotspot::{HotspotRead, read_hotspot};
-use integer::{Unsigned, parse_u32};
-use lexical::{Passed, Token, XbmPart};
+use hotspot::read_hotspot;
+use integer::parse_u32;
+use lexical::XbmPart;
 use lines::{read_array_line, read_define_line, read_value};
 use symbol::read_width_symbol;
-use text::{TextLocation, Took, take};
+use text::{TextLocation, take};
 
-#[derive(Clone, Copy)]
-pub enum Hotspot {
-    Absent,
-    At(i32, i32),
-}
-
-// Properties of an XBM image (excluding the name).
-#[derive(Clone, Copy)]
+// Properties of an XBM image (excluding the name). The hotspot is x and y, or none where its lines are absent.
+#[derive(Clone, Copy, Debug, PartialEq, Eq)]
 pub struct XbmHeaderData {
     pub width: u32,
     pub height: u32,
-    pub hotspot: Hotspot,
+    pub hotspot: Option<(i32, i32)>,
 }
 
-// The header and the place after its brace, or the refusal.
-#[derive(Clone, Copy)]
-pub enum HeaderRead {
-    Read(XbmHeaderData, TextLocation),
-    Refused(XbmDecodeError),
-}
-
-// The same, with the length of the name that stands at the name buffer's start: 0 if the header is refused.
-#[derive(Clone, Copy)]
+// The header and the place after its brace, or the refusal; and the length of the name that stands at the name buffer's start:
+// 0 if the header is refused.
+#[derive(Clone, Copy, Debug, PartialEq, Eq)]
 pub struct HeaderAnswer {
-    pub header: HeaderRead,
+    pub header: Result<(XbmHeaderData, TextLocation), XbmDecodeError>,
     pub name: usize,
 }
 
@@ -46,88 +34,103 @@ fn read_ending(
     text: &[u8],
     place: TextLocation,
     name: &[u8],
+    header: XbmHeaderData,
+) -> Result<(XbmHeaderData, TextLocation), XbmDecodeError>
+    ensures { told_header name.now result ≡ shown (ending_of name.now header.width header.height (hot_of header.hotspot) text.now place) }
+{
+    let next = read_array_line(text, place, name, XbmPart::Array)?;
+    Ok((header, next))
+}
+
+// The hotspot's lines, the array line, and with them the header.
+fn read_spot_ending(
+    text: &[u8],
+    place: TextLocation,
+    name: &[u8],
     width: u32,
     height: u32,
-    hotspot: Hotspot,
-) -> HeaderRead
-    ensures { told_header name.now result ≡ shown (ending_of name.now width height (hot_of hotspot) text.now place) }
+) -> Result<(XbmHeaderData, TextLocation), XbmDecodeError>
+    ensures { told_header name.now result ≡ shown (spot_ending name.now width height text.now place) }
 {
-    match read_array_line(text, place, name, XbmPart::Array) {
-        Passed::To(p) => HeaderRead::Read(
-            XbmHeaderData {
-                width: width,
-                height: height,
-                hotspot: hotspot,
-            },
-            p,
-        ),
-        Passed::Refused(q, at) => HeaderRead::Refused(XbmDecodeError::Parse(q, at)),
-    }
+    let (spot, next) = read_hotspot(text, place, name)?;
+    let hotspot = Some(spot);
+    read_ending(
+        text,
+        next,
+        name,
+        XbmHeaderData {
+            width,
+            height,
+            hotspot,
+        },
+    )
 }
 
 // What follows the height line: `#` opens the hotspot, `s` the array line.
-fn read_rest(text: &[u8], place: TextLocation, name: &[u8], width: u32, height: u32) -> HeaderRead
+fn read_rest(
+    text: &[u8],
+    place: TextLocation,
+    name: &[u8],
+    width: u32,
+    height: u32,
+) -> Result<(XbmHeaderData, TextLocation), XbmDecodeError>
     ensures { told_header name.now result ≡ shown (rest_of name.now width height text.now place) }
 {
     match take(text, place) {
-        Took::Next(b, next) => {
-            if b == b'#' {
-                return match read_hotspot(text, place, name) {
-                    HotspotRead::Spot(x, y, p) => {
-                        read_ending(text, p, name, width, height, Hotspot::At(x, y))
-                    }
-                    HotspotRead::Refused(e) => HeaderRead::Refused(e),
-                };
-            }
-            if b == b's' {
-                return read_ending(text, place, name, width, height, Hotspot::Absent);
-            }
-            HeaderRead::Refused(XbmDecodeError::Parse(XbmPart::Array, next))
+        Some((b'#', _)) => read_spot_ending(text, place, name, width, height),
+        Some((b's', _)) => {
+            let hotspot = None;
+            read_ending(
+                text,
+                place,
+                name,
+                XbmHeaderData {
+                    width,
+                    height,
+                    hotspot,
+                },
+            )
         }
-        Took::End => HeaderRead::Refused(XbmDecodeError::Parse(XbmPart::Array, place)),
+        Some((_, next)) => Err(XbmDecodeError::Parse(XbmPart::Array, next)),
+        None => Err(XbmDecodeError::Parse(XbmPart::Array, place)),
     }
 }
 
 // The height line and what follows it.
-fn read_height(text: &[u8], place: TextLocation, name: &[u8], width: u32) -> HeaderRead
+fn read_height(
+    text: &[u8],
+    place: TextLocation,
+    name: &[u8],
+    width: u32,
+) -> Result<(XbmHeaderData, TextLocation), XbmDecodeError>
     ensures { told_header name.now result ≡ shown (height_of name.now width text.now place) }
 {
     let mut digits = [0u8; 11];
-    match read_define_line(text, place, name, b"_height", &mut digits, XbmPart::Height) {
-        Token::Read(n, p) => match parse_u32(&digits[..n]) {
-            Unsigned::Value(height) => {
-                if height == 0 {
-                    return HeaderRead::Refused(XbmDecodeError::ZeroHeight);
-                }
-                read_rest(text, p, name, width, height)
-            }
-            Unsigned::Bad(f) => {
-                HeaderRead::Refused(XbmDecodeError::DecodeInteger(XbmPart::Height, f))
-            }
-        },
-        Token::Refused(q, at) => HeaderRead::Refused(XbmDecodeError::Parse(q, at)),
+    let (n, next) = read_define_line(text, place, name, b"_height", &mut digits, XbmPart::Height)?;
+    let error = |fault| XbmDecodeError::DecodeInteger(XbmPart::Height, fault);
+    let height = parse_u32(&digits[..n]).map_err(error)?;
+    if height == 0 {
+        return Err(XbmDecodeError::ZeroHeight);
     }
+    read_rest(text, next, name, width, height)
 }
 
 // What follows the width's symbol.
-fn read_sides(text: &[u8], place: TextLocation, name: &[u8]) -> HeaderRead
+fn read_sides(
+    text: &[u8],
+    place: TextLocation,
+    name: &[u8],
+) -> Result<(XbmHeaderData, TextLocation), XbmDecodeError>
     ensures { told_header name.now result ≡ shown (sides_of name.now text.now place) }
 {
     let mut digits = [0u8; 11];
-    match read_value(text, place, &mut digits, XbmPart::Width) {
-        Token::Read(n, p) => match parse_u32(&digits[..n]) {
-            Unsigned::Value(width) => {
-                if width == 0 {
-                    return HeaderRead::Refused(XbmDecodeError::ZeroWidth);
-                }
-                read_height(text, p, name, width)
-            }
-            Unsigned::Bad(f) => {
-                HeaderRead::Refused(XbmDecodeError::DecodeInteger(XbmPart::Width, f))
-            }
-        },
-        Token::Refused(q, at) => HeaderRead::Refused(XbmDecodeError::Parse(q, at)),
+    let (n, next) = read_value(text, place, &mut digits, XbmPart::Width)?;
+    let error = |fault| XbmDecodeError::DecodeInteger(XbmPart::Width, fault);
+    let width = parse_u32(&digits[..n]).map_err(error)?;
+    if width == 0 {
+        return Err(XbmDecodeError::ZeroWidth);
     }
+    read_height(text, next, name, width)
 }
 
 // Read the XBM file header up to and including the first opening brace.
@@ -135,21 +138,13 @@ pub fn read_xbm_header(text: &[u8], name: &mut [u8]) -> HeaderAnswer
     ensures { Headed text.now name.old name.new result }
 {
     match read_width_symbol(text, name) {
-        Token::Read(n, p) => {
-            let header = read_sides(text, p, &name[..n]);
-            match header {
-                HeaderRead::Read(_, _) => HeaderAnswer {
-                    header: header,
-                    name: n,
-                },
-                HeaderRead::Refused(_) => HeaderAnswer {
-                    header: header,
-                    name: 0,
-                },
-            }
+        Ok((n, next)) => {
+            let header = read_sides(text, next, &name[..n]);
+            let name = if header.is_ok() { n } else { 0 };
+            HeaderAnswer { header, name }
         }
-        Token::Refused(q, at) => HeaderAnswer {
-            header: HeaderRead::Refused(XbmDecodeError::Parse(q, at)),
+        Err(e) => HeaderAnswer {
+            header: Err(e.into()),
             name: 0,
         },
     }

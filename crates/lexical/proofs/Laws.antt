@@ -49,8 +49,8 @@ module _ {B : Type 0} (p : Reader (Unit {0})) (f : Unit {0} → Reader B) (t : L
   pass-refused h k = bind-stop p f t i (told-refused e h) k
 
 -- what the exit of a `?` hands back
-pub refused-as : {A : Type 0} {r : Answer A ParseError} {x : ParseError} → IsErrAnd r (λ e. e ≡ x) → r ≡ Err x
-refused-as {A} {r} {x} h = let p = err_from_is_err_and {Q = λ e. e ≡ x} r h in p.1 ∙ ap (λ e. Err e) p.2
+pub refused-as : {A E : Type 0} {r : Answer A E} {x : E} → IsErrAnd r (λ e. e ≡ x) → r ≡ Err x
+refused-as {A} {E} {r} {x} h = let p = err_from_is_err_and {Q = λ e. e ≡ x} r h in p.1 ∙ ap (λ e. Err e) p.2
 
 pub told-err : {r : Answer TextLocation ParseError} {x : ParseError} → r ≡ Err x → told r ≡ stop (number x.part) x.place
 told-err h = rw h

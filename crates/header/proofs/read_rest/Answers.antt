@@ -1,25 +1,23 @@
 -- What the search leaves of `read_rest`.
-use Rattle.std.proofs.Common.{rules}
+use Rattle.std.proofs.Common.{rules, arith, ◌≡◌}
 use Rattle.header.proofs.Told.{shown_laws}
 use Rattle.header.specs.Answer.{rest_of}
 use Rattle.header.proofs.read_rest.Goals as goal
 
-pub returns-in-Spot : goal.returns-in-Spot
+pub returns-in-Some-eq35-default : goal.returns-in-Some-eq35-default
 unfolding rest_of
-returns-in-Spot c = search (shown_laws, rules)
+returns-in-Some-eq35-default c = search (shown_laws, rules)
 
-pub returns-in-Refused : goal.returns-in-Refused
+pub returns-in-Some-eq115-default : goal.returns-in-Some-eq115-default
 unfolding rest_of
-returns-in-Refused c = search (shown_laws, rules)
+returns-in-Some-eq115-default c =
+    let n : c.in-Some-eq115-default.field-0-0 ≡ 35 → ⊥ = λ e. omega arith in
+    search (shown_laws, n, rules)
 
-pub returns-then-b-eq115 : goal.returns-then-b-eq115
+pub returns-in-Some : goal.returns-in-Some
 unfolding rest_of
-returns-then-b-eq115 c = search (shown_laws, rules)
+returns-in-Some c = search (shown_laws, rules)
 
-pub returns-else-b-eq115 : goal.returns-else-b-eq115
+pub returns-in-None : goal.returns-in-None
 unfolding rest_of
-returns-else-b-eq115 c = search (shown_laws, rules)
-
-pub returns-in-End : goal.returns-in-End
-unfolding rest_of
-returns-in-End c = search (shown_laws, rules)
+returns-in-None c = search (shown_laws, rules)
