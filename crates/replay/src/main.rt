@@ -2,7 +2,7 @@
 #![tactic(auto)]
 
 use answer::answer;
-use report::{count, print_malformed, print_summary};
+use report::{is_given, print_malformed, print_summary};
 use std::fs;
 use std::io::{self, Read};
 use stored::{Difference, NUMBERS, RECORD, ROOM, Record, compare, number_at, read_record};
@@ -34,6 +34,16 @@ fn read_count<R: Read>(list: &mut R) -> Result<u64, Malformed> {
     }
 }
 
+// One more case with this number, if it is one that the original gives.
+fn count(tally: &mut [u64; NUMBERS], number: u64) -> Result<(), Malformed> {
+    if !is_given(number) {
+        return Err(Malformed);
+    }
+    let n = number as usize;
+    tally[n] = tally[n].wrapping_add(1);
+    Ok(())
+}
+
 // What differs first between our answer and the original's.
 fn judge(text: &[u8; ROOM], record: Record) -> Result<Result<(), Difference>, Malformed> {
     let text = text.get(..record.length as usize).ok_or(Malformed)?;
@@ -54,7 +64,7 @@ fn replay_case<R: Read>(
     let record = read_record(&bytes);
     let brought = text.get_mut(..record.brought as usize).ok_or(Malformed)?;
     list.read_exact(brought)?;
-    count(tally, record.told.number).ok_or(Malformed)?;
+    count(tally, record.told.number)?;
     judge(text, record)
 }
 
