@@ -31,6 +31,7 @@ pub fn read_input<R: Read>(reader: &mut R, buf: &mut [u8]) -> io::Result<usize>
     ensures retried { IfErr result (λ e. error_kind e ≢ ErrorKind.Interrupted) }
 {
     let mut done = 0;
+    // No `for` fits: a read brings any number of bytes.
     while done < buf.len() {
         let n = read_once(reader, &mut buf[done..])?;
         if n == 0 {

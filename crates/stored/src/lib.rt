@@ -31,7 +31,7 @@ pub struct Size {
     pub height: u64,
 }
 
-// The hotspot: how many there are, and where. A record may hold any numbers here, and each is compared: so this is no Option.
+// The hotspot: how many there are, and where. No Option: a record may hold any numbers here, and another one is a difference.
 #[derive(Clone, Copy, Debug, Default, PartialEq, Eq)]
 pub struct Spot {
     pub count: u64,
