@@ -1,67 +1,45 @@
-// All of an input into a lent buffer, with a read that fails told apart from the input's end.
+// All of an input into a lent buffer. A read that fails is told apart from the input's end.
 #![tactic(auto)]
 
-ghost use Rattle.std.specs.Prelude.{◌≤◌, ◌≡◌, length, take};
-ghost use Rattle.input.specs.Input.{Within, Takes, GoesOn, Brings};
+ghost use Rattle.std.specs.Prelude.{◌≤◌, ◌≡◌, ◌≢◌, length, take, IfErr};
+ghost use Rattle.std.specs.Io.{ReadsAtMost};
+ghost use Rattle.std.specs.Io.KnownBytes.{ReadConsumes};
+ghost use Rattle.std.specs.IoError.{error_kind};
+ghost use Rattle.input.specs.Input.{Brings};
 
-use std::io::{ErrorKind, Read};
-
-// So many bytes at the buffer's start: all that there are, or as many as it has room for. Or a read failed.
-#[derive(Clone, Copy)]
-pub enum Input {
-    Read(usize),
-    Failed,
-}
+use std::io::{self, ErrorKind, Read};
 
 // One read, tried again where a signal interrupts it, as std does.
-fn read_once<R: Read>(reader: &mut R, room: &mut [u8]) -> Input
-    ensures within { Within result room.new }
-    ensures bytes { Takes (R.remaining reader.old) (R.remaining reader.new) result room.new }
+fn read_once<R: Read>(reader: &mut R, room: &mut [u8]) -> io::Result<usize>
+    ensures within { ReadsAtMost result room.new }
+    ensures bytes { ReadConsumes (R.remaining reader.old) (R.remaining reader.new) result room.new }
+    ensures retried { IfErr result (λ e. error_kind e ≢ ErrorKind.Interrupted) }
 {
     for _ in 0..u64::MAX {
         match reader.read(room) {
-            Ok(n) => return Input::Read(n),
-            Err(error) => {
-                if error.kind() != ErrorKind::Interrupted {
-                    return Input::Failed;
-                }
-            }
+            Err(error) if error.kind() == ErrorKind::Interrupted => {}
+            read => return read,
         }
     }
-    Input::Failed
+    Err(io::Error::new(ErrorKind::TimedOut, "each read was interrupted"))
 }
 
-// One read into the buffer from `done` on: how many bytes are there then, no more than before at the input's end.
-fn read_on<R: Read>(reader: &mut R, buf: &mut [u8], done: usize) -> Input
-    requires { done ≤ length buf.old }
-    ensures within { Within result buf.new }
-    ensures front { take done buf.new ≡ take done buf.old }
-    ensures bytes { GoesOn (R.remaining reader.old) (R.remaining reader.new) done result buf.new }
-{
-    let Input::Read(n) = read_once(reader, &mut buf[done..]) else {
-        return Input::Failed;
-    };
-    Input::Read(done + n)
-}
-
-// Reads until the input ends, the buffer is full or a read fails.
-pub fn read_input<R: Read>(reader: &mut R, buf: &mut [u8]) -> Input
-    ensures within { Within result buf.new }
+// Reads until the input ends, the buffer is full or a read fails: how many bytes stand at the buffer's start.
+pub fn read_input<R: Read>(reader: &mut R, buf: &mut [u8]) -> io::Result<usize>
+    ensures within { ReadsAtMost result buf.new }
     ensures bytes { Brings (R.remaining reader.old) (R.remaining reader.new) result buf.new }
+    ensures retried { IfErr result (λ e. error_kind e ≢ ErrorKind.Interrupted) }
 {
-    let mut done: usize = 0;
+    let mut done = 0;
+    // No `for` fits: a read brings any number of bytes.
     while done < buf.len() {
-        match read_on(reader, buf, done) {
-            Input::Read(n) => {
-                if n <= done {
-                    return Input::Read(done);
-                }
-                done = n;
-            }
-            Input::Failed => return Input::Failed,
+        let n = read_once(reader, &mut buf[done..])?;
+        if n == 0 {
+            break;
         }
+        done += n;
     }
-    Input::Read(done)
+    Ok(done)
 }
 
 #[cfg(test)]
@@ -103,14 +81,6 @@ mod tests {
         }
     }
 
-    // How many bytes were read, or none where a read failed.
-    fn count_of(input: Input) -> Option<usize> {
-        match input {
-            Input::Read(n) => Some(n),
-            Input::Failed => None,
-        }
-    }
-
     #[test]
     fn reads_go_on_until_the_end_a_full_buffer_or_a_failure(rt: HostRuntime) {
         for (left, fails, count, room) in [
@@ -123,7 +93,7 @@ mod tests {
         ] {
             let mut buf = [9u8; 5];
             let input = read_input(&mut begin(left, fails), &mut buf);
-            assert_eq!(rt; count_of(input), count, "{left} bytes");
+            assert_eq!(rt; input.ok(), count, "{left} bytes");
             assert_eq!(rt; buf, room, "{left} bytes");
         }
     }

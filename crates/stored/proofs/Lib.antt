@@ -1,3 +1,2 @@
--- The theorems of `stored` and what its proofs share, by module.
+-- The theorems of `stored`, by module.
 pub mod Alike
-pub mod Laws

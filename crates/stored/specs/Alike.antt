@@ -12,14 +12,8 @@ pub data Counts (ours original : ℕ) : Type 0 where
 
 pub record Alike (a b : Told) : Type 0 where
   pub number : Counts a.number b.number
-  pub byte : a.byte ≡ b.byte
-  pub line : a.line ≡ b.line
-  pub column : a.column ≡ b.column
-  pub width : a.width ≡ b.width
-  pub height : a.height ≡ b.height
-  pub name : a.name ≡ b.name
+  pub place : a.place ≡ b.place
+  pub sides : a.sides ≡ b.sides
   pub hotspot : a.hotspot ≡ b.hotspot
-  pub x : a.x ≡ b.x
-  pub y : a.y ≡ b.y
-  pub «name-sum» : a.name_sum ≡ b.name_sum
+  pub name : a.name ≡ b.name
   pub «pixel-sum» : a.pixel_sum ≡ b.pixel_sum

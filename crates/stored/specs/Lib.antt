@@ -1,3 +1,4 @@
 -- The definitions of `stored`, by module.
 pub mod Record
 pub mod Alike
+pub mod Words

@@ -1,14 +1,14 @@
 // Lists the mask on standard input: reads, calls the listing, writes. If a read fails, nothing is listed.
 #![tactic(auto)]
 
-use input::{Input, read_input};
+use input::read_input;
 use program::{CELLS_SIZE, OUT_SIZE, TEXT_SIZE, list_input};
 use std::io;
 use symbol::name_buffer;
 
 fn main(rt: HostRuntime) -> io::Result<()> {
     let mut text = [0u8; TEXT_SIZE];
-    let Input::Read(n) = read_input(&mut rt.stdin(), &mut text) else {
+    let Ok(n) = read_input(&mut rt.stdin(), &mut text) else {
         return eprintln!(rt; "xbm_list: standard input could not be read");
     };
     let mut name = name_buffer();

@@ -1,7 +1,7 @@
 // Rewrites the mask on standard input: reads, calls the rewriting, writes. If a read fails, nothing is written.
 #![tactic(auto)]
 
-use input::{Input, read_input};
+use input::read_input;
 use program::{CELLS_SIZE, TEXT_SIZE};
 use rewriting::{REWRITTEN_SIZE, rewrite_input};
 use std::io;
@@ -9,7 +9,7 @@ use symbol::name_buffer;
 
 fn main(rt: HostRuntime) -> io::Result<()> {
     let mut text = [0u8; TEXT_SIZE];
-    let Input::Read(n) = read_input(&mut rt.stdin(), &mut text) else {
+    let Ok(n) = read_input(&mut rt.stdin(), &mut text) else {
         return eprintln!(rt; "xbm_rewrite: standard input could not be read");
     };
     let mut name = name_buffer();

@@ -1,17 +1,20 @@
 -- What a read gave stands behind what came before it.
-use Rattle.std.proofs.Common.{rules, arith, ℕ, ◌≡◌, ◌≤◌, ◌+◌, ◌-◌, ◌++◌, List, take, drop, sym, ap, ◌∙◌, subst}
+use Rattle.std.proofs.Common.{rules, ℕ, ◌≡◌, ◌≤◌, ◌+◌, ◌++◌, List, length, take, sym, ap, ◌∙◌, subst, length-take-le}
+use Rattle.std.proofs.Math.Seq.{take-append-add}
+use Rattle.std.proofs.lemmas.List.{take-append-le}
 use Rattle.std.specs.Io.KnownBytes.{Consumes}
 use Rattle.std.proofs.KnownBytes.{Consumes-trans}
-use Rattle.std.proofs.Math.Seq.{take-add}
+use borrow.Rule.Slice.PartMut.{put_mid, post_of}
 use Rattle.input.proofs.read_input.Goals as goal
 
-joined : (d n : ℕ) (old new : List ℕ) → d ≤ n → take d new ≡ take d old → take d old ++ take (n - d) (drop d new) ≡ take n new
-joined d n old new h front =
-    let same : d + (n - d) ≡ n = omega arith in
-    ap (λ l. l ++ take (n - d) (drop d new)) (sym front) ∙ sym (take-add d (n - d) new) ∙ ap (λ m. take m new) same
+joined : (d k n : ℕ) (buf room : List ℕ) → d ≤ length buf → n ≤ length room → take d buf ++ take n room ≡ take (d + n) (put_mid d k buf room)
+joined d k n buf room within fits =
+    let after = post_of d k buf in
+    let front = length-take-le d buf within in
+    sym (ap (λ m. take (m + n) (put_mid d k buf room)) (sym front) ∙ take-append-add (take d buf) (room ++ after) n ∙ ap (λ l. take d buf ++ l) (take-append-le n room after fits))
 
 pub loop-done-preserved : goal.loop-done-preserved
 loop-done-preserved g c =
-    let read = c.in-Read.ensures in
-    let whole = joined c.loop-done.done c.in-Read.n c.loop-done.buf c.read_on.new.buf (omega arith) read.front in
-    (search rules, search rules, subst (Consumes _ _) whole (Consumes-trans _ _ _ _ _ c.loop-done.invariant.2 read.bytes.1))
+    let read = c.in_ok-n.ensures in
+    let whole = joined c.loop-done.done _ c.in_ok-n.n c.loop-done.buf c.read_once.new.room c.loop-done.invariant.0 read.within.0 in
+    (search rules, subst (Consumes _ _) whole (Consumes-trans _ _ _ _ _ c.loop-done.invariant.1 read.bytes.0))

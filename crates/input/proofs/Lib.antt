@@ -1,2 +1,0 @@
--- The laws of `input`.
-pub mod Laws
