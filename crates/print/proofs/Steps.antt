@@ -1,8 +1,8 @@
 -- What a step of the code says of the lent buffer.
-use Rattle.std.specs.Prelude.{◌≡◌, ℕ, ◌+◌, ◌<◌, ◌≤◌, ◌^◌, List, [], ◌∷◌, ◌++◌, refl, ℤ}
-use Rattle.std.proofs.Common.{sym, ap, ◌∙◌, lt-ltb, le-ltb}
+use Rattle.std.specs.Prelude.{ℕ, ◌+◌, ◌<◌, ◌^◌, List, [], ◌∷◌, ◌++◌, refl, ℤ}
+use Rattle.std.proofs.Common.{sym, ap, ◌∙◌}
 use Rattle.std.proofs.lemmas.List.{take_more}
-use lib.ListN.{length, take, set, get_or}
+use lib.ListN.{length, take, get_or}
 use mathlib.Core.List.{append-nil}
 use Rattle.std.specs.Fmt as Printed
 use Rattle.std.specs.Int.RustNames.{FitsSigned}
@@ -10,20 +10,9 @@ use mir.Syntax.{w32}
 use Rattle.print.specs.Decimal.{decimal, signed}
 use Rattle.print.proofs.Decimal.{decimal-printed, signed-printed}
 use Rattle.print.specs.declared.Buffer.{Buffer}
-use Rattle.print.specs.Output.{output, put, puts, joined}
+use Rattle.print.specs.Output.{puts, joined}
 use Rattle.print.specs.Puts.{Puts, held}
 use Rattle.print.proofs.Output.{puts-append}
-
-module _ (b : ℕ) (s : List ℕ) (n : ℕ) where
-  pub put_in : n < length s → output (set s n b) (n + 1) ≡ puts (b ∷ []) (output s n)
-  unfolding put puts
-  put_in h = rw (lt-ltb n (length s) h)
-
-  pub put-out : length s ≤ n → output s n ≡ puts (b ∷ []) (output s n)
-  unfolding put puts
-  put-out h = rw (le-ltb n (length s) h)
-
-pub ruleset put_laws = (put_in, put-out)
 
 pub puts-none : (o : Buffer) → Puts [] o o
 unfolding puts

@@ -15,6 +15,7 @@ pub struct Buffer<'a> {
 
 impl Buffer<'_> {
     // One byte, which is dropped where no room is left.
+    #[tactic(auto, unfolding(crate::specs::Output::put, crate::specs::Output::puts))]
     pub fn put_byte(&mut self, b: u8)
         ensures { Puts (b ∷ []) self.old self.new }
     {
