@@ -2,7 +2,7 @@
 #![tactic(auto)]
 
 ghost use Rattle.std.specs.Prelude.{◌≡◌, ◌*◌, min, take};
-ghost use Rattle.ink.specs.Ink.{ink_at, ink_of};
+ghost use Rattle.ink.specs.Ink.{ink_of};
 
 // How many cells a picture has.
 pub fn cell_count(width: u32, height: u32) -> u64
@@ -15,33 +15,15 @@ pub fn cell_count(width: u32, height: u32) -> u64
 pub fn at_most(n: u64, length: usize) -> usize
     ensures { result ≡ min n length }
 {
-    if n < length as u64 {
-        return n as usize;
-    }
-    length
+    n.min(length as u64) as usize
 }
 
-// One for a cell of ink, which is 0.
-fn ink_at(cell: u8) -> u64
-    ensures { result ≡ ink_at cell }
-{
-    if cell == 0 {
-        return 1;
-    }
-    0
-}
-
-// How many cells are 0.
+// How many cells are ink, which is 0.
+#[tactic(auto, using(crate::proofs::Ink::ink_counted))]
 fn count_ink(cells: &[u8]) -> u64
     ensures { result ≡ ink_of cells.now }
 {
-    let mut n: u64 = 0;
-    let mut i = 0;
-    while i < cells.len() {
-        n += ink_at(cells[i]);
-        i += 1;
-    }
-    n
+    cells.iter().filter(|cell| **cell == 0).count() as u64
 }
 
 // How many cells of a picture are 0: the first width times height of those lent.

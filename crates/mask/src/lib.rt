@@ -2,48 +2,45 @@
 #![tactic(auto)]
 
 ghost use Rattle.std.specs.Prelude.{◌≡◌};
-ghost use Rattle.mask.specs.Fault.{is_cell, all_cells, fault};
+ghost use Rattle.std.specs.List.{list_all};
+ghost use Rattle.mask.specs.Fault.{is_cell, fault, told_fault};
 
 use ink::cell_count;
+
+// What is wrong with a mask.
+#[derive(Clone, Copy, Debug, PartialEq, Eq)]
+pub enum MaskError {
+    ZeroSide,
+    CellCount,
+    CellValue,
+}
 
 // Ink, which is 0, or none, which is 255.
 fn is_cell(x: u8) -> bool
     ensures { result ≡ is_cell x }
 {
-    if x == 0 {
-        return true;
-    }
-    x == 255
+    x == 0 || x == 255
 }
 
 fn all_cells(cells: &[u8]) -> bool
-    ensures { result ≡ all_cells cells.now }
+    ensures { result ≡ list_all is_cell cells.now }
 {
-    let mut i = 0;
-    while i < cells.len() {
-        if !is_cell(cells[i]) {
-            return false;
-        }
-        i += 1;
-    }
-    true
+    cells.iter().all(|x| is_cell(*x))
 }
 
-// 52 a zero side, 53 cells not width times height, 54 a cell neither 0 nor 255; 0 where nothing is wrong.
-pub fn mask_fault(width: u32, height: u32, cells: &[u8]) -> u32
-    ensures { result ≡ fault width height cells.now }
+// Checked in this order: no side is zero, the cells are width times height, and each is 0 or 255.
+#[tactic(auto, using(crate::proofs::Laws::cells_tested), unfolding(crate::specs::Fault::fault))]
+pub fn check_mask(width: u32, height: u32, cells: &[u8]) -> Result<(), MaskError>
+    ensures { told_fault result ≡ fault width height cells.now }
 {
-    if width == 0 {
-        return 52;
-    }
-    if height == 0 {
-        return 52;
+    if width == 0 || height == 0 {
+        return Err(MaskError::ZeroSide);
     }
     if cells.len() as u64 != cell_count(width, height) {
-        return 53;
+        return Err(MaskError::CellCount);
     }
     if !all_cells(cells) {
-        return 54;
+        return Err(MaskError::CellValue);
     }
-    0
+    Ok(())
 }

@@ -1,10 +1,8 @@
--- What each turn of the loop in `put_data` keeps.
-use Prim.Native.Nat.{◌-◌}
-use Rattle.data_text.proofs.Putting.{Sending}
+-- What each turn of the loop in `put_data` keeps: so many data bytes are put.
+use Rattle.print.specs.Puts.{Puts}
+use Rattle.data_text.specs.Packed.{packed_from}
+use Rattle.data_text.specs.DataText.{data_text}
 use Rattle.data_text.proofs.put_data.Given as goal
 
 abbrev pub invariant-loop-k : goal.invariant-loop-k
-invariant-loop-k l = Sending l.width l.cells l.n l.initial.out l.initial.next l.out l.next l.k
-
-abbrev pub decreases-loop-k : goal.decreases-loop-k
-decreases-loop-k l = l.n - l.k
+invariant-loop-k l = Puts (data_text 0 (packed_from l.width l.cells 0 l.k)) l.initial.out l.out
