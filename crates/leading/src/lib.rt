@@ -1,62 +1,41 @@
 // The lines before the first define line, skipped whole. Only this crate knows how a line's end is found.
 #![tactic(auto)]
 
-ghost use Rattle.std.specs.Prelude.{true, ◌≡◌, ◌+◌, length, drop};
+ghost use Rattle.std.specs.Prelude.{true, ◌≡◌};
 ghost use Rattle.lexical.specs.Lexical.{number, told, leading};
-ghost use Rattle.leading.specs.Line.{line_of, line_rest};
+ghost use Rattle.leading.specs.Line.{line_rest};
 
-use lexical::{Passed, XbmPart};
-use text::{Peeked, TextLocation, along, has_left, past_line, peek};
-
-// The first newline at or after `from`, or the end.
-fn line_end(text: &[u8], from: usize) -> usize
-    ensures { result ≡ from + length (line_of (drop from text.now)) }
-{
-    let mut i = from;
-    while i < text.len() {
-        if text[i] == b'\n' {
-            return i;
-        }
-        i += 1;
-    }
-    i
-}
+use lexical::{ParseError, XbmPart};
+use text::{TextLocation, along, has_left, past_line, peek};
 
 // The rest of a line, with its newline.
-fn skip_line(text: &[u8], place: TextLocation, part: XbmPart) -> Passed
+fn skip_line(text: &[u8], place: TextLocation, part: XbmPart) -> Result<TextLocation, ParseError>
     ensures { told result ≡ line_rest (number part) text.now place }
 {
-    if has_left(text, place, 1) {
-        let from = place.byte.0 as usize;
-        let end = line_end(text, from);
-        let size = (end - from) as u64;
-        if end < text.len() {
-            return Passed::To(past_line(place, size));
-        }
-        return Passed::Refused(part, along(place, size));
+    if !has_left(text, place, 1) {
+        return Err(ParseError { part, place });
     }
-    Passed::Refused(part, place)
+    let left = &text[place.byte.0 as usize..];
+    match left.iter().position(|b| *b == b'\n') {
+        Some(size) => Ok(past_line(place, size as u64)),
+        None => Err(ParseError {
+            part,
+            place: along(place, left.len() as u64),
+        }),
+    }
 }
 
 // Skip whole lines, up to the first that begins with `#`.
-pub fn skip_non_define_lines(text: &[u8], place: TextLocation, part: XbmPart) -> Passed
+pub fn skip_non_define_lines(
+    text: &[u8],
+    place: TextLocation,
+    part: XbmPart,
+) -> Result<TextLocation, ParseError>
     ensures { told result ≡ leading (number part) true text.now place }
 {
     let mut at = place;
-    loop {
-        match peek(text, at) {
-            Peeked::Found(b) => {
-                if b == b'#' {
-                    return Passed::To(at);
-                }
-            }
-            Peeked::Nothing => return Passed::Refused(part, at),
-        }
-        match skip_line(text, at, part) {
-            Passed::To(next) => {
-                at = next;
-            }
-            Passed::Refused(q, end) => return Passed::Refused(q, end),
-        }
+    while peek(text, at).ok_or(ParseError { part, place: at })? != b'#' {
+        at = skip_line(text, at, part)?;
     }
+    Ok(at)
 }
