@@ -1,70 +1,47 @@
 -- What a step of the code says of data bytes and of the trailer.
 use Prim.Native.Nat.{ℕ}
-use borrow.Author.Tests.{eq-eqb}
-use mathlib.Core.Path.{◌≡◌, refl, ap, ◌∙◌}
-use mathlib.Core.List.{List}
+use lib.Dec.{eqb}
+use mathlib.Core.Path.{◌≡◌, refl, sym, ap, ◌∙◌}
+use mathlib.Core.List.{List, [], ◌∷◌}
 use mathlib.Core.Bool.{Bool, true, false}
+use Rattle.std.specs.Prelude.{Option as Taken, Some, None, Result as Answer, Ok, Err}
 use Rattle.text.specs.declared.TextLocation.{TextLocation}
-use Rattle.text.specs.declared.Took.{Took}
-use Rattle.text.specs.declared.Took.TheVariants.{Next, End}
-use Rattle.text.specs.Place.{took_at}
-use Rattle.text.specs.Reader.{Result, ok, stop, bad, then, Reader, ◌>>=◌, ◌>>◌}
-use Rattle.text.specs.Leaf.{give, eot}
+use Rattle.text.specs.Place.{rest, after, took_at}
+use Rattle.text.specs.Reader.{Result, ok, stop, bad, then, ◌>>=◌, ◌>>◌}
+use Rattle.text.specs.Leaf.{give, one, first, judge, choose, fork_of, fork, eot}
 use Rattle.text.proofs.Laws.{next-rest, next-after, end_rest}
-use Rattle.text.proofs.Reading.{bind_ok, bind_laws, fork_laws}
-use Rattle.lexical.specs.Lexical.{is_blank, is_loose, skip, byte, is}
-use Rattle.lexical.proofs.Laws.{then-yes, byte-is, byte-end, skip_stop, skip-end, byte_laws, row_laws, pass_laws}
+use Rattle.text.proofs.Reading.{bind_ok}
+use Rattle.lexical.specs.declared.ParseError.{ParseError}
+use Rattle.lexical.specs.Lexical.{number, told, when, is_loose, skip, byte, is, fixed}
+use Rattle.lexical.proofs.Laws.{told-to, told-refused, pass_laws}
 use Rattle.hexadecimal.specs.Hex.{hex_byte}
-use Rattle.body.specs.Data.{item}
+use Rattle.hexadecimal.proofs.Hex.{one_laws}
+use Rattle.body.specs.Data.{item, brace}
 use Rattle.body.specs.Code.{separator}
 
 -- the end of the text
-module _ (c : ℕ) (t : List ℕ) (i : TextLocation) {r : Took} (e : r ≡ took_at t i) where
-  pub eot-end : r ≡ End → ok tt i ≡ eot c t i
+module _ (c : ℕ) (t : List ℕ) (i : TextLocation) {r : Taken (ℕ × TextLocation)} (e : r ≡ took_at t i) where
+  pub eot-end : r ≡ None → ok tt i ≡ eot c t i
   unfolding eot
   eot-end m = rw (end_rest t i e m)
 
-  pub eot-more : {b : ℕ} {q : TextLocation} → r ≡ Next b q → stop c q ≡ eot c t i
+  pub eot-more : {b : ℕ} {q : TextLocation} → r ≡ Some (b, q) → stop c q ≡ eot c t i
   unfolding eot
   eot-more m = rw (next-rest t i e m, ← next-after t i e m)
 
 pub ruleset end_laws = (eot-end, eot-more)
 
--- the byte x, with more to read
-pub then_is : {B : Type 0} (c x : ℕ) (f : Unit {0} → Reader B) (t : List ℕ) (i : TextLocation) {r : Took} {z : Result B} {b : ℕ} {q : TextLocation}
-    → r ≡ took_at t i → r ≡ Next b q → b ≡ x → z ≡ f tt t q → z ≡ (byte c (is x) >>= f) t i
-then_is c x f t i {b = b} e m h = then-yes c (is x) f t i e m refl (eq-eqb b x h)
-
+-- nothing before the first data byte; between two a comma, after loose space
 module _ (f : Bool) (t : List ℕ) (i : TextLocation) {z : Result (Unit {0})} where
   pub separator-first : f ≡ true → z ≡ ok tt i → z ≡ separator f t i
   unfolding separator give
   separator-first h k = rw h k
 
-  separator-next : f ≡ false → z ≡ (skip is_loose >> byte 6 (is 44)) t i → z ≡ separator f t i
+  pub separator-next : f ≡ false → z ≡ (skip is_loose >> byte 6 (is 44)) t i → z ≡ separator f t i
   unfolding separator
   separator-next h k = rw h k
 
--- a comma that stands there at once, and the end
-module _ (f : Bool) (t : List ℕ) (i : TextLocation) {r : Took} (g : f ≡ false) (e : r ≡ took_at t i) where
-  pub separator-comma : {b : ℕ} {q : TextLocation} → r ≡ Next b q → b ≡ 44 → ok tt q ≡ separator f t i
-  separator-comma {b} m h = separator-next f t i g (bind_ok (skip is_loose) _ t i (skip_stop is_loose t i e m refl (ap is_loose h ∙ other) refl) (byte-is 6 44 t i e m h))
-    where
-      other : is_loose 44 ≡ false
-      other = unfold is_loose is_blank in refl
-
-  pub separator-end : r ≡ End → stop 6 i ≡ separator f t i
-  separator-end m = separator-next f t i g (bind_ok (skip is_loose) _ t i (skip-end is_loose t i e m refl) (byte-end 6 (is 44) t i e m))
-
--- any other byte
-pub separator-else : (f : Bool) (t : List ℕ) (i : TextLocation) {z : Result (Unit {0})} → f ≡ false → z ≡ separator false t i → z ≡ separator f t i
-separator-else f t i g k = rw g k
-
-pub comma-spaced : (t : List ℕ) (i : TextLocation) {z : Result (Unit {0})} → z ≡ (skip is_loose >> byte 6 (is 44)) t i → z ≡ separator false t i
-comma-spaced t i = separator-next false t i refl
-
-pub ruleset separator_laws = (separator-first, separator-comma, separator-end, separator-else)
-
-pub ruleset comma_laws = (comma-spaced, byte_laws)
+pub ruleset separator_laws = (separator-first, separator-next, bind_ok)
 
 -- a data byte by its separator
 pub item-separated : (f : Bool) (t : List ℕ) (i : TextLocation) {z : Result ℕ} → z ≡ (separator f >> skip is_loose >> hex_byte 6) t i → z ≡ item f t i
@@ -80,8 +57,42 @@ item-separated false t i h = h ∙ go (skip is_loose t i)
     go (stop c e) = refl
     go (bad c e) = refl
 
-pub ruleset item_laws = (item-separated, pass_laws)
+pub ruleset item_laws = (item-separated, pass_laws, one_laws)
 
-pub ruleset brace_laws = (fork_laws, then_is, bind_laws)
+-- the brace: past one comma and loose space, or at once
+module _ (t : List ℕ) (i : TextLocation) where
+  after-comma : (q : TextLocation) → ok tt q ≡ byte 7 (is 44) t i → (skip is_loose >> fixed 7 (125 ∷ [])) t q ≡ brace t i
+  unfolding brace fork byte one
+  after-comma q e = at-rest (rest t i) refl e
+    where
+      at-first : (b : ℕ) (w : Bool) → eqb b 44 ≡ w → ok tt q ≡ judge 7 (when w) (after b i) → (skip is_loose >> fixed 7 (125 ∷ [])) t q ≡ choose 7 (after b i) (byte 7 (is 44) >> skip is_loose >> fixed 7 (125 ∷ [])) (fixed 7 (125 ∷ [])) w (eqb b 125) t i
+      at-first b true u h = bind_ok (byte 7 (is 44)) _ t i e refl
+      at-first b false u h = cc
 
-pub ruleset closing_laws = (row_laws, bind_laws)
+      at-rest : (l : List ℕ) → rest t i ≡ l → ok tt q ≡ first 7 (λ b. when (is 44 b)) l i → (skip is_loose >> fixed 7 (125 ∷ [])) t q ≡ brace t i
+      at-rest [] r h = cc
+      at-rest (b ∷ l) r h = rw r (at-first b (eqb b 44) refl h)
+
+  no-comma : (x : ParseError) → stop (number x.part) x.place ≡ byte 7 (is 44) t i → fixed 7 (125 ∷ []) t i ≡ brace t i
+  unfolding brace fork fixed byte one ◌>>=◌
+  no-comma x e = at-rest (rest t i) refl e
+    where
+      at-first : (b : ℕ) (l : List ℕ) (w y : Bool) → rest t i ≡ b ∷ l → eqb b 44 ≡ w → eqb b 125 ≡ y → stop (number x.part) x.place ≡ judge 7 (when w) (after b i)
+          → fixed 7 (125 ∷ []) t i ≡ choose 7 (after b i) (byte 7 (is 44) >> skip is_loose >> fixed 7 (125 ∷ [])) (fixed 7 (125 ∷ [])) w y t i
+      at-first b l true y r u v h = cc
+      at-first b l false true r u v h = refl
+      at-first b l false false r u v h = rw (r, v) refl
+
+      at-rest : (l : List ℕ) → rest t i ≡ l → stop (number x.part) x.place ≡ first 7 (λ b. when (is 44 b)) l i → fixed 7 (125 ∷ []) t i ≡ brace t i
+      at-rest [] r h = rw r refl
+      at-rest (b ∷ l) r h =
+          at-first b l (eqb b 44) (eqb b 125) r refl refl h ∙ ap (λ (k : List ℕ). fork_of 7 44 (byte 7 (is 44) >> skip is_loose >> fixed 7 (125 ∷ [])) 125 (fixed 7 (125 ∷ [])) k t i) (sym r)
+
+  module _ {m : Answer TextLocation ParseError} {a : TextLocation} {z : Result (Unit {0})} (e : told m ≡ byte 7 (is 44) t i) (k : z ≡ fixed 7 (125 ∷ []) t a) where
+    pub brace-comma : {q p : TextLocation} → m ≡ Ok q → ok tt p ≡ skip is_loose t q → a ≡ p → z ≡ brace t i
+    brace-comma {q} h s w = bind_ok (skip is_loose) (λ u. fixed 7 (125 ∷ [])) t q s (rw w at k) ∙ after-comma q (told-to e h)
+
+    pub brace-plain : {x : ParseError} → m ≡ Err x → a ≡ i → z ≡ brace t i
+    brace-plain {x} h w = (rw w at k) ∙ no-comma x (told-refused e h)
+
+pub ruleset brace_laws = (brace-comma, brace-plain)

@@ -9,12 +9,13 @@ use mathlib.Core.List.{List, [], ◌∷◌, ◌++◌}
 use lib.ListN.{length, get_or, set}
 use lib.Seq.{get_or-set_same, get_or-set_other}
 use borrow.Author.Tests.{ne_eqb, lt-ltb}
+use Rattle.std.specs.Int.{div_ceil}
 use Rattle.text.specs.declared.TextLocation.{TextLocation}
 use Rattle.body.specs.Data.{Log, row_bytes}
 use Rattle.cells.specs.Cells.{ink, byte_for, byte_at, inked, cell, cells_from, painted}
 use Rattle.cells.specs.Stores.{dab, byte_stored}
 use Rattle.cells.proofs.Kept.{at-past}
-use Rattle.cells.proofs.Stores.{length-dab, left-within}
+use Rattle.cells.proofs.Stores.{length-dab, end-within}
 
 -- ---- a log with one byte more
 
@@ -111,6 +112,9 @@ pub painted-all : (w : ℕ) (l : Log) (p lent : List ℕ) → length p ≡ lengt
 unfolding painted
 painted-all w l p lent h k = painted-from w l 0 p lent h (λ i. k i ∙ ap (λ (m : ℕ). cell w l m (get_or lent i 0)) (omega arith))
 
+row-ceil : (w : ℕ) → row_bytes w ≡ div_ceil w 8
+row-ceil w = omega arith
+
 -- ---- one data byte by its position: the cells of the bytes before it become those with it
 
 pub stored-step : (w : ℕ) → (w ≡ 0 → ⊥) → (lent p : List ℕ) (l : Log) (b : ℕ) (e : TextLocation) → length l / ((w + 7) / 8) < length p / w
@@ -121,4 +125,4 @@ stored-step w h lent p l b e r old c =
     let some_bytes : 0 < row_bytes w = omega arith in
     rw (ne_eqb w 0 h, lt-ltb (k / ((w + 7) / 8)) (length p / w) r)
     (paint-step w (omega arith) (k / row_bytes w) (k % row_bytes w) (mod-lt k some_bytes) (k / row_bytes w * w + k % row_bytes w * 8) (min 8 (w - k % row_bytes w * 8)) (omega arith) (omega arith) lent p l b e
-    (omega (arith, div-add-mod' k (row_bytes w))) (omega (arith, left-within w k (length p) r h)) old c)
+    (omega (arith, div-add-mod' k (row_bytes w))) (omega (arith, end-within w k h (row-ceil w) (length p) r refl)) old c)

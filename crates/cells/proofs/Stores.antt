@@ -10,6 +10,8 @@ use mathlib.Core.List.{List, [], ◌∷◌, ◌++◌}
 use lib.ListN.{length, set, take, drop, length-set, length-take, length-drop, take-append-drop}
 use lib.Seq.{set-append_left}
 use borrow.Author.Tests.{eq-eqb, ne_eqb, lt-ltb, le-ltb}
+use Rattle.std.specs.Int.{div_ceil}
+use Rattle.body.specs.Data.{row_bytes}
 use Rattle.cells.specs.Cells.{ink}
 use Rattle.cells.specs.Stores.{dab, unpacked, byte_stored}
 
@@ -77,70 +79,58 @@ dab-part s b n e p h k =
     rw (z, m, ← dab-before b n (take n (drop s p)) (drop n (drop s p)) (omega (arith, m)), take-append-drop)
     (sym (dab-after (take s p) b n (drop s p)) ∙ rw (l, take-append-drop))
 
--- ---- the cells of one data byte, by its position
+-- ---- the cells of one data byte, by its position: a data bytes make a row of w cells, so this one begins at cell x of row y
 
-module _ (w k : ℕ) where
-  abbrev across : ℕ
-  across = (w + 7) / 8
+module _ (w k : ℕ) (h : w ≡ 0 → ⊥) {a : ℕ} (e : a ≡ div_ceil w 8) where
+  across : a ≡ row_bytes w
+  across = omega (arith, e)
 
-  in_row : (w ≡ 0 → ⊥) → k % across * 8 < w
-  in_row h = omega (arith, mod-lt k (some-across h))
-    where
-      some-across : (w ≡ 0 → ⊥) → 0 < across
-      some-across h = omega arith
+  pub some-across : 0 < a
+  some-across = omega (arith, across)
 
-  pub x_fits : w < 2 ^ 32 → (w ≡ 0 → ⊥) → Fits w64 (k % ((w + 7) / 8) * 8)
-  x_fits l h = record { fits = omega (arith, in_row h) }
+  in_row : k % a * 8 < w
+  in_row = omega (arith, across, mod-lt k some-across)
 
-  pub x-within : (w ≡ 0 → ⊥) → k % ((w + 7) / 8) * 8 ≤ w
-  x-within h = omega (arith, in_row h)
+  pub x_fits : w < 2 ^ 32 → Fits w64 (k % a * 8)
+  x_fits l = record { fits = omega (arith, in_row) }
 
-  module _ (n : ℕ) (l : k / ((w + 7) / 8) < n / w) where
-    row_within : (k / across + 1) * w ≤ n
-    row_within = let z : (k / across + 1) * w ≤ n / w * w = mul-le-mul_right w (omega arith) in omega (arith, z, div-add-mod' n w)
+  pub x-within : k % a * 8 ≤ w
+  x-within = omega (arith, in_row)
 
-    pub row_fits : n < 2 ^ 64 → Fits w64 (k / ((w + 7) / 8) * w)
-    row_fits h = record { fits = omega (arith, row_within) }
+  module _ (n : ℕ) (l : k / a < n / w) where
+    row_within : (k / a + 1) * w ≤ n
+    row_within = let z : (k / a + 1) * w ≤ n / w * w = mul-le-mul_right w (omega arith) in omega (arith, z, div-add-mod' n w)
 
-    module _ (h : w ≡ 0 → ⊥) where
-      pub start_fits : n < 2 ^ 64 → Fits w64 (k / ((w + 7) / 8) * w + k % ((w + 7) / 8) * 8)
-      start_fits o = record { fits = omega (arith, row_within, in_row h) }
+    pub row_fits : n < 2 ^ 64 → Fits w64 (k / a * w)
+    row_fits o = record { fits = omega (arith, row_within) }
 
-      pub eight-within : 8 < w - k % ((w + 7) / 8) * 8 → k / ((w + 7) / 8) * w + k % ((w + 7) / 8) * 8 + 8 ≤ n
-      eight-within o = omega (arith, row_within, in_row h)
+    pub start_fits : n < 2 ^ 64 → Fits w64 (k / a * w + k % a * 8)
+    start_fits o = record { fits = omega (arith, row_within, in_row) }
 
-      pub left-within : k / ((w + 7) / 8) * w + k % ((w + 7) / 8) * 8 + (w - k % ((w + 7) / 8) * 8) ≤ n
-      left-within = omega (arith, row_within, in_row h)
+    module _ {m : ℕ} (s : m ≡ min (w - k % a * 8) 8) where
+      pub end-within : k / a * w + k % a * 8 + m ≤ n
+      end-within = omega (arith, row_within, in_row)
 
-      pub eight_fits : n < 2 ^ 64 → 8 < w - k % ((w + 7) / 8) * 8 → Fits w64 (k / ((w + 7) / 8) * w + k % ((w + 7) / 8) * 8 + 8)
-      eight_fits a o = record { fits = omega (arith, eight-within o) }
-
-      pub left-fits : n < 2 ^ 64 → Fits w64 (k / ((w + 7) / 8) * w + k % ((w + 7) / 8) * 8 + (w - k % ((w + 7) / 8) * 8))
-      left-fits a = record { fits = omega (arith, left-within) }
+      pub end_fits : n < 2 ^ 64 → Fits w64 (k / a * w + k % a * 8 + m)
+      end_fits o = record { fits = omega (arith, end-within) }
 
 module _ (w k b : ℕ) (p : List ℕ) where
   pub stored-none : w ≡ 0 → p ≡ byte_stored w k b p
   unfolding byte_stored
   stored-none h = rw (eq-eqb w 0 h)
 
-  module _ (h : w ≡ 0 → ⊥) where
-    pub stored_past : length p / w ≤ k / ((w + 7) / 8) → p ≡ byte_stored w k b p
+  module _ (h : w ≡ 0 → ⊥) {a : ℕ} (e : a ≡ div_ceil w 8) where
+    pub stored_past : length p / w ≤ k / a → p ≡ byte_stored w k b p
     unfolding byte_stored
-    stored_past l = rw (ne_eqb w 0 h, le-ltb (k / ((w + 7) / 8)) (length p / w) l)
+    stored_past l = rw (ne_eqb w 0 h, ← across w k h e, le-ltb (k / a) (length p / w) l)
 
-    module _ (l : k / ((w + 7) / 8) < length p / w) where
-      abbrev start : ℕ
-      start = k / ((w + 7) / 8) * w + k % ((w + 7) / 8) * 8
+    pub stored-in : k / a < length p / w → {m : ℕ} {q : List ℕ} → m ≡ min (w - k % a * 8) 8
+        → q ≡ unpacked b (take (k / a * w + k % a * 8 + m - (k / a * w + k % a * 8)) (drop (k / a * w + k % a * 8) p))
+        → take (k / a * w + k % a * 8) p ++ (q ++ drop (k / a * w + k % a * 8 + m - (k / a * w + k % a * 8)) (drop (k / a * w + k % a * 8) p)) ≡ byte_stored w k b p
+    unfolding byte_stored
+    stored-in l {m} s u =
+        let z : min 8 (w - k % a * 8) ≡ m = omega arith in
+        rw (ne_eqb w 0 h, ← across w k h e, lt-ltb (k / a) (length p / w) l, z, u)
+        (dab-part (k / a * w + k % a * 8) b m (k / a * w + k % a * 8 + m) p refl (end-within w k h e (length p) l s))
 
-      abbrev left : ℕ
-      left = w - k % ((w + 7) / 8) * 8
-
-      pub stored-eight : {q : List ℕ} → 8 < left → q ≡ unpacked b (take (start + 8 - start) (drop start p)) → take start p ++ (q ++ drop (start + 8 - start) (drop start p)) ≡ byte_stored w k b p
-      unfolding byte_stored
-      stored-eight o e = let z : min 8 left ≡ 8 = omega arith in rw (ne_eqb w 0 h, lt-ltb (k / ((w + 7) / 8)) (length p / w) l, z, e) (dab-part start b 8 (start + 8) p refl (eight-within w k (length p) l h o))
-
-      pub stored-left : {q : List ℕ} → left ≤ 8 → q ≡ unpacked b (take (start + left - start) (drop start p)) → take start p ++ (q ++ drop (start + left - start) (drop start p)) ≡ byte_stored w k b p
-      unfolding byte_stored
-      stored-left o e = let z : min 8 left ≡ left = omega arith in rw (ne_eqb w 0 h, lt-ltb (k / ((w + 7) / 8)) (length p / w) l, z, e) (dab-part start b left (start + left) p refl (left-within w k (length p) l h))
-
-pub ruleset storing_laws = (x_fits, x-within, row_fits, start_fits, eight_fits, eight-within, left-fits, left-within, stored-none, stored_past, stored-eight, stored-left)
+pub ruleset storing_laws = (some-across, x_fits, x-within, row_fits, start_fits, end_fits, end-within, stored-none, stored_past, stored-in)

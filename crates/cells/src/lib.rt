@@ -9,10 +9,7 @@ ghost use Rattle.cells.specs.Stores.{unpacked, byte_stored};
 fn least(bits: u8) -> u8
     ensures { result ≡ ink bits 0 }
 {
-    if bits % 2 == 1 {
-        return 0;
-    }
-    255
+    if bits % 2 == 1 { 0 } else { 255 }
 }
 
 // Each cell takes its bit of v, the least first.
@@ -20,11 +17,9 @@ pub fn unpack(v: u8, cells: &mut [u8])
     ensures { cells.new ≡ unpacked v cells.old }
 {
     let mut bits = v;
-    let mut i: usize = 0;
-    while i < cells.len() {
-        cells[i] = least(bits);
-        bits = bits / 2;
-        i += 1;
+    for cell in cells.iter_mut() {
+        *cell = least(bits);
+        bits /= 2;
     }
 }
 
@@ -36,19 +31,13 @@ pub fn store_byte(pixels: &mut [u8], width: u32, position: u64, v: u8)
         return;
     }
     let w = width as usize;
-    let across = (w + 7) / 8;
+    let across = w.div_ceil(8);
     let y = position as usize / across;
     if y >= pixels.len() / w {
         return;
     }
     let x = position as usize % across * 8;
-    let left = w - x;
     let start = y * w + x;
-    if left > 8 {
-        let end = start + 8;
-        unpack(v, &mut pixels[start..end]);
-        return;
-    }
-    let end = start + left;
+    let end = start + (w - x).min(8);
     unpack(v, &mut pixels[start..end]);
 }

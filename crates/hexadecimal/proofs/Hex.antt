@@ -1,78 +1,84 @@
 -- What a step of the code says of hex bytes.
 use mir.Syntax.{w8}
 use mir.Val.{Fits}
-use Prim.Native.Nat.{ℕ, zero, suc, ◌+◌, ◌-◌, ◌*◌, ◌<◌, ◌≤◌}
+use Prim.Native.Nat.{ℕ, zero, suc, ◌+◌, ◌*◌, ◌<◌}
 use native.Mathlib.Omega.{arith}
-use borrow.Author.Tests.{le-leb, lt-leb, lt-ltb, le-ltb, ltb-true}
+use borrow.Author.Tests.{ltb-true}
 use mathlib.Core.Path.{◌≡◌, refl, ap, ◌∙◌}
 use mathlib.Core.Option.{none, some}
 use mathlib.Core.List.{List, [], ◌∷◌}
 use mathlib.Core.Bool.{Bool, true, false}
 use lib.ListN.{get_or}
 use lib.Dec.{ltb}
+use Rattle.std.specs.Prelude.{Option as Value, Some, None, ok_or, Result as Answer, Ok, Err}
 use Rattle.text.specs.declared.TextLocation.{TextLocation}
-use Rattle.text.specs.Place.{pick, rest, after}
+use Rattle.text.specs.Place.{pick, rest, after, took_at}
 use Rattle.text.specs.Reader.{Result, ok, stop, Reader, ◌>>=◌}
 use Rattle.text.specs.Leaf.{one, first, judge}
 use Rattle.text.proofs.Reading.{bind_ok, bind-stop, one-past, one-stop, one_end}
 use Rattle.lexical.specs.declared.XbmPart.{XbmPart}
-use Rattle.lexical.specs.Lexical.{number, told_byte}
-use Rattle.lexical.specs.declared.ByteRead.{ByteRead}
-use Rattle.lexical.specs.declared.ByteRead.TheVariants.{Got, Refused}
-use Rattle.hexadecimal.specs.Hex.{hex_of, values_from, hex_table, hexv, hex_digit}
+use Rattle.lexical.specs.Lexical.{number, told, told_byte}
+use Rattle.lexical.proofs.Laws.{told-refused}
+use Rattle.lexical.specs.declared.ParseError.{ParseError}
+use Rattle.hexadecimal.specs.Hex.{hex_of, value_of, values_from, hex_table, hexv, hex_digit}
 
--- the value by the range of the byte
-module _ (b : ℕ) where
-  pub hex-0 : b < 48 → 16 ≡ hex_of b
-  unfolding hex_of
-  hex-0 h = rw (lt-leb 48 b h, lt-leb 65 b (omega arith), lt-leb 97 b (omega arith))
+-- what `hex_value` answers
+module _ (b : ℕ) {r : Value ℕ} (e : r ≡ value_of b) where
+  pub hex-is : {v : ℕ} → r ≡ Some v → hexv b ≡ some v
+  unfolding hexv
+  hex-is {v} m = go (ltb (hex_of b) 16) e
+    where
+      go : (w : Bool) → r ≡ pick w (Some (hex_of b)) None → pick w (some (hex_of b)) none ≡ some v
+      go true u = let x : hex_of b ≡ v = cc in rw x refl
+      go false u = cc
 
-  pub hex-1 : 48 ≤ b → b ≤ 57 → b - 48 ≡ hex_of b
-  unfolding hex_of
-  hex-1 h k = rw (le-leb 48 b h, le-leb b 57 k)
+  pub hex-none : r ≡ None → hexv b ≡ none
+  unfolding hexv
+  hex-none m = go (ltb (hex_of b) 16) e
+    where
+      go : (w : Bool) → r ≡ pick w (Some (hex_of b)) None → pick w (some (hex_of b)) none ≡ none
+      go true u = cc
+      go false u = refl
 
-  pub hex-2 : 57 < b → b < 65 → 16 ≡ hex_of b
-  unfolding hex_of
-  hex-2 h k = rw (le-leb 48 b (omega arith), lt-leb b 57 h, lt-leb 65 b k, lt-leb 97 b (omega arith))
+same_error : {A : Type 0} {x y : ParseError} → ◌≡◌ {A = Answer A ParseError} (Err x) (Err y) → x ≡ y
+same_error h = cc
 
-  pub hex-3 : 65 ≤ b → b ≤ 70 → b - 65 + 10 ≡ hex_of b
-  unfolding hex_of
-  hex-3 h k = rw (le-leb 48 b (omega arith), lt-leb b 57 (omega arith), le-leb 65 b h, le-leb b 70 k)
+-- the exits of a `?` on a byte and on its value, with an error of their own
+module _ (part : XbmPart) (t : List ℕ) (i : TextLocation) {r : Value (ℕ × TextLocation)} {m : Answer (ℕ × TextLocation) ParseError} {x : ParseError} (e : r ≡ took_at t i) where
+  pub digit-end : r ≡ None → Err x ≡ ok_or r (record { part = part; place = i }) → m ≡ Err x → told_byte m ≡ hex_digit (number part) t i
+  unfolding hex_digit
+  digit-end n u h = let y : x ≡ record { part = part; place = i } = same_error {A = _} (rw n at u) in rw (h, y) (one_end (number part) hexv t i e n)
 
-  pub hex-4 : 70 < b → b < 97 → 16 ≡ hex_of b
-  unfolding hex_of
-  hex-4 h k = rw (le-leb 48 b (omega arith), lt-leb b 57 (omega arith), le-leb 65 b (omega arith), lt-leb b 70 h, lt-leb 97 b k)
+  pub digit-not : {b : ℕ} {q : TextLocation} {v : Value ℕ} → r ≡ Some (b, q) → v ≡ value_of b → v ≡ None → Err x ≡ ok_or v (record { part = part; place = q }) → m ≡ Err x → told_byte m ≡ hex_digit (number part) t i
+  unfolding hex_digit
+  digit-not {b} {q} s w n u h = let y : x ≡ record { part = part; place = q } = same_error {A = _} (rw n at u) in rw (h, y) (one-stop (number part) hexv t i e s (hex-none b w n))
 
-  pub hex-5 : 97 ≤ b → b ≤ 102 → b - 97 + 10 ≡ hex_of b
-  unfolding hex_of
-  hex-5 h k = rw (le-leb 48 b (omega arith), lt-leb b 57 (omega arith), le-leb 65 b (omega arith), lt-leb b 70 (omega arith), le-leb 97 b h, le-leb b 102 k)
-
-  pub hex-6 : 102 < b → 16 ≡ hex_of b
-  unfolding hex_of
-  hex-6 h = rw (le-leb 48 b (omega arith), lt-leb b 57 (omega arith), le-leb 65 b (omega arith), lt-leb b 70 (omega arith), le-leb 97 b (omega arith), lt-leb b 102 h)
-
-pub hex-is : (b : ℕ) {r : ℕ} → r ≡ hex_of b → r < 16 → hexv b ≡ some r
-unfolding hexv
-hex-is b {r} e h = rw (← e, lt-ltb r 16 h)
-
-pub hex-none : (b : ℕ) {r : ℕ} → r ≡ hex_of b → 16 ≤ r → hexv b ≡ none
-unfolding hexv
-hex-none b {r} e h = rw (← e, le-ltb r 16 h)
-
-pub ruleset digit_laws = (one-past, one-stop, one_end, hex-is, hex-none)
+pub ruleset digit_laws = (one-past, hex-is, digit-end, digit-not)
 
 -- an answer that is matched on
-module _ {B : Type 0} (p : Reader ℕ) (f : ℕ → Reader B) (t : List ℕ) (i : TextLocation) {m : ByteRead} {z : Result B} (e : told_byte m ≡ p t i) where
-  pub pass-got : {v : ℕ} {q : TextLocation} → m ≡ Got v q → z ≡ f v t q → z ≡ (p >>= f) t i
-  pass-got h k = bind_ok p f t i (rw h at e) k
+module _ {d : Result ℕ} {m : Answer (ℕ × TextLocation) ParseError} (e : told_byte m ≡ d) where
+  pub told-got : {v : ℕ} {q : TextLocation} → m ≡ Ok (v, q) → ok v q ≡ d
+  told-got h = rw h at e
 
-  pub pass-not-got : {part : XbmPart} {q : TextLocation} → m ≡ Refused part q → z ≡ stop (number part) q → z ≡ (p >>= f) t i
-  pass-not-got h k = bind-stop p f t i (rw h at e) k
+  pub told-not_got : {x : ParseError} → m ≡ Err x → stop (number x.part) x.place ≡ d
+  told-not_got h = rw h at e
 
-pub ruleset one_laws = (pass-got, pass-not-got)
+module _ {B : Type 0} (p : Reader ℕ) (f : ℕ → Reader B) (t : List ℕ) (i : TextLocation) {m : Answer (ℕ × TextLocation) ParseError} {z : Result B} (e : told_byte m ≡ p t i) where
+  pub pass-got : {v : ℕ} {q : TextLocation} → m ≡ Ok (v, q) → z ≡ f v t q → z ≡ (p >>= f) t i
+  pass-got h k = bind_ok p f t i (told-got e h) k
+
+-- the exit of a `?` on the first of two readings
+module _ (t : List ℕ) (i : TextLocation) {r : Answer (ℕ × TextLocation) ParseError} {x : ParseError} where
+  pub exit-got : (p : Reader ℕ) (f : ℕ → Reader ℕ) {m : Answer (ℕ × TextLocation) ParseError} → told_byte m ≡ p t i → m ≡ Err x → r ≡ Err x → told_byte r ≡ (p >>= f) t i
+  exit-got p f e h k = rw k (bind-stop p f t i (told-not_got e h) refl)
+
+  pub exit-byte : (p : Reader (Unit {0})) (f : Unit {0} → Reader ℕ) {m : Answer TextLocation ParseError} → told m ≡ p t i → m ≡ Err x → r ≡ Err x → told_byte r ≡ (p >>= f) t i
+  exit-byte p f e h k = rw k (bind-stop p f t i (told-refused e h) refl)
+
+pub ruleset one_laws = (pass-got, told-got, told-not_got, exit-got, exit-byte)
 
 -- a digit that was read is below 16
-pub digit-small : (c : ℕ) (t : List ℕ) (i : TextLocation) {m : ByteRead} {v : ℕ} {q : TextLocation} → told_byte m ≡ hex_digit c t i → m ≡ Got v q → v < 16
+pub digit-small : (c : ℕ) (t : List ℕ) (i : TextLocation) {m : Answer (ℕ × TextLocation) ParseError} {v : ℕ} {q : TextLocation} → told_byte m ≡ hex_digit c t i → m ≡ Ok (v, q) → v < 16
 unfolding hex_digit one hexv
 digit-small c t i {m} {v} {q} e h = go (rest t i) (rw h at e)
   where
@@ -84,11 +90,11 @@ digit-small c t i {m} {v} {q} e h = go (rest t i) (rw h at e)
     go [] k = let z : ◌≡◌ {A = ℕ} 0 1 = cc in absurd (omega arith)
     go (b ∷ l) k = fin b (ltb (hex_of b) 16) refl (after b i) k
 
-module _ (c : ℕ) (t : List ℕ) (i : TextLocation) {m : ByteRead} {v : ℕ} {q : TextLocation} (e : told_byte m ≡ hex_digit c t i) (h : m ≡ Got v q) where
+module _ (c : ℕ) (t : List ℕ) (i : TextLocation) {m : Answer (ℕ × TextLocation) ParseError} {v : ℕ} {q : TextLocation} (e : told_byte m ≡ hex_digit c t i) (h : m ≡ Ok (v, q)) where
   pub hi-fits : Fits w8 (v * 16)
   hi-fits = let a = digit-small c t i e h in omega arith
 
-  pub byte_fits : {n : ByteRead} {w : ℕ} {r : TextLocation} → told_byte n ≡ hex_digit c t q → n ≡ Got w r → Fits w8 (v * 16 + w)
+  pub byte_fits : {n : Answer (ℕ × TextLocation) ParseError} {w : ℕ} {r : TextLocation} → told_byte n ≡ hex_digit c t q → n ≡ Ok (w, r) → Fits w8 (v * 16 + w)
   byte_fits f k = let a = digit-small c t i e h in let b = digit-small c t q f k in omega arith
 
 -- the table's rule, at each entry

@@ -1,5 +1,5 @@
 -- The theorems about what specs/Hex.antt defines.
-use Prim.Native.Nat.{ℕ, zero, suc, ◌+◌, ◌-◌, ◌*◌}
+use Prim.Native.Nat.{ℕ, zero, suc, ◌+◌, ◌*◌}
 use Rattle.text.specs.Reader.{Local, Firm, Mild, Grows}
 use Rattle.text.proofs.Reader.{bind-local, bind-firm, bind-mild}
 use Rattle.text.proofs.Leaf.{give-local, give-firm, give-mild, one_local, one-firm, one-mild, one_grows}

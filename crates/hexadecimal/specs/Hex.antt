@@ -1,7 +1,7 @@
 -- Hexadecimal units: `0x` or `0X` and a number of digits.
 use Prim.Native.Nat.{ℕ, zero, suc, ◌+◌, ◌-◌, ◌*◌}
 use Rattle.std.proofs.Math.Option.{Option, none, some}
-use Rattle.std.specs.Prelude.{List, [], ◌∷◌, Bool, true, false, leb, ltb, eqb}
+use Rattle.std.specs.Prelude.{List, [], ◌∷◌, Bool, true, false, leb, ltb, eqb, Option as Value, Some, None}
 use Rattle.text.specs.Place.{pick}
 use Rattle.text.specs.Reader.{Reader, ◌>>=◌, ◌>>◌}
 use Rattle.text.specs.Leaf.{give, one}
@@ -26,6 +26,10 @@ hex_table = values_from 0 256
 
 unfoldable pub hexv : ℕ → Option ℕ
 hexv b = pick (ltb (hex_of b) 16) (some (hex_of b)) none
+
+-- the same as the code answers it
+abbrev pub value_of : ℕ → Value ℕ
+value_of b = pick (ltb (hex_of b) 16) (Some (hex_of b)) None
 
 unfoldable pub hex_digit : ℕ → Reader ℕ
 hex_digit c = one c hexv

@@ -2,41 +2,29 @@
 #![tactic(auto)]
 
 ghost use Rattle.std.specs.Prelude.{◌≡◌};
-ghost use Rattle.lexical.specs.Lexical.{number, told, told_byte, byte};
-ghost use Rattle.hexadecimal.specs.Hex.{hex_of, hex_table, is_mark, hex_digit, hex_start, hex_byte};
+ghost use Rattle.lexical.specs.Lexical.{number, told, told_byte};
+ghost use Rattle.hexadecimal.specs.Hex.{value_of, hex_table, is_mark, hex_digit, hex_start, hex_byte};
 
 use hex_table::HEX;
-use lexical::{ByteRead, Passed, XbmPart, read_fixed_string};
-use text::{TextLocation, Took, past_byte, take};
+use lexical::{ParseError, XbmPart, read_byte_of, read_fixed_string};
+use text::{TextLocation, past_byte, take};
 
 mod hex_table;
 
-// A hex digit's value, and 16 of any other byte.
-pub fn hex_value(b: u8) -> u8
-    ensures { result ≡ hex_of b }
+// A hex digit's value.
+#[tactic(auto, using(std::proofs::lemmas::Bool::Decides::nat_tests), unfolding(crate::specs::Hex::hex_of))]
+pub fn hex_value(b: u8) -> Option<u8>
+    ensures { result ≡ value_of b }
 {
-    if b < b'0' {
-        return 16;
+    match b {
+        b'0'..=b'9' => Some(b - b'0'),
+        b'A'..=b'F' => Some(b - b'A' + 10),
+        b'a'..=b'f' => Some(b - b'a' + 10),
+        _ => None,
     }
-    if b <= b'9' {
-        return b - b'0';
-    }
-    if b < b'A' {
-        return 16;
-    }
-    if b <= b'F' {
-        return b - b'A' + 10;
-    }
-    if b < b'a' {
-        return 16;
-    }
-    if b <= b'f' {
-        return b - b'a' + 10;
-    }
-    16
 }
 
-// The same of all bytes. Call it once, above a loop, and lend it down.
+// The same of all bytes, as numbers and not as options: so one look-up tells both. Call it once, above a loop, and lend it down.
 pub fn hex_values() -> [u8; 256]
     ensures { result ≡ hex_table }
 {
@@ -44,71 +32,48 @@ pub fn hex_values() -> [u8; 256]
 }
 
 // Read a single hex digit, either upper or lower case. Past a digit, as past `x`, no newline is looked for.
-pub fn read_hex_digit(text: &[u8], place: TextLocation, part: XbmPart) -> ByteRead
+pub fn read_hex_digit(
+    text: &[u8],
+    place: TextLocation,
+    part: XbmPart,
+) -> Result<(u8, TextLocation), ParseError>
     ensures { told_byte result ≡ hex_digit (number part) text.now place }
 {
-    match take(text, place) {
-        Took::Next(b, next) => {
-            let v = hex_value(b);
-            if v < 16 {
-                ByteRead::Got(v, past_byte(place, b))
-            } else {
-                ByteRead::Refused(part, next)
-            }
-        }
-        Took::End => ByteRead::Refused(part, place),
-    }
+    let (b, next) = take(text, place).ok_or(ParseError { part, place })?;
+    let v = hex_value(b).ok_or(ParseError { part, place: next })?;
+    Ok((v, past_byte(place, b)))
 }
 
 // `x` or `X`.
+#[tactic(auto, using(std::proofs::lemmas::Grind::common_steps), unfolding(crate::specs::Hex::is_mark))]
 fn is_mark(b: u8) -> bool
     ensures { result ≡ is_mark b }
 {
-    if b == b'x' {
-        return true;
-    }
-    b == b'X'
-}
-
-// The same, read.
-fn read_mark(text: &[u8], place: TextLocation, part: XbmPart) -> Passed
-    ensures { told result ≡ byte (number part) is_mark text.now place }
-{
-    match take(text, place) {
-        Took::Next(b, next) => {
-            if is_mark(b) {
-                Passed::To(past_byte(place, b))
-            } else {
-                Passed::Refused(part, next)
-            }
-        }
-        Took::End => Passed::Refused(part, place),
-    }
+    b == b'x' || b == b'X'
 }
 
 // `0` and then `x` or `X`.
-fn read_hex_start(text: &[u8], place: TextLocation, part: XbmPart) -> Passed
+fn read_hex_start(
+    text: &[u8],
+    place: TextLocation,
+    part: XbmPart,
+) -> Result<TextLocation, ParseError>
     ensures { told result ≡ hex_start (number part) text.now place }
 {
-    match read_fixed_string(text, place, b"0", part) {
-        Passed::To(p) => read_mark(text, p, part),
-        Passed::Refused(q, at) => Passed::Refused(q, at),
-    }
+    let mark = read_fixed_string(text, place, b"0", part)?;
+    read_byte_of(text, mark, is_mark, part)
 }
 
 // Read a hex-encoded byte (e.g.: 0xA1).
-pub fn read_hex_byte(text: &[u8], place: TextLocation, part: XbmPart) -> ByteRead
+pub fn read_hex_byte(
+    text: &[u8],
+    place: TextLocation,
+    part: XbmPart,
+) -> Result<(u8, TextLocation), ParseError>
     ensures { told_byte result ≡ hex_byte (number part) text.now place }
 {
-    let a = match read_hex_start(text, place, part) {
-        Passed::To(p) => p,
-        Passed::Refused(q, at) => return ByteRead::Refused(q, at),
-    };
-    match read_hex_digit(text, a, part) {
-        ByteRead::Got(hi, b) => match read_hex_digit(text, b, part) {
-            ByteRead::Got(lo, c) => ByteRead::Got(hi * 16 + lo, c),
-            ByteRead::Refused(q, at) => ByteRead::Refused(q, at),
-        },
-        ByteRead::Refused(q, at) => ByteRead::Refused(q, at),
-    }
+    let a = read_hex_start(text, place, part)?;
+    let (hi, b) = read_hex_digit(text, a, part)?;
+    let (lo, c) = read_hex_digit(text, b, part)?;
+    Ok((hi * 16 + lo, c))
 }

@@ -1,20 +1,20 @@
 -- Lines that are skipped: a line's rest at once, and the lines before the first define line.
 use Prim.Native.Nat.{ℕ, suc, ◌+◌, ◌-◌, ◌*◌, ◌^◌, ◌<◌, ◌≤◌}
 use native.Mathlib.Nat.{zero-add}
-use native.Mathlib.Numerals.{add-one}
 use native.Mathlib.Omega.{arith}
 use native.Mathlib.Decide.{dec_lt}
-use borrow.Author.Tests.{eq-eqb, ne_eqb, eqb-true, lt-ltb, le-ltb}
+use borrow.Author.Tests.{eq-eqb, ne_eqb, eqb-true, lt-ltb, le-ltb, ltb-false}
 use mathlib.Core.Path.{◌≡◌, refl, sym, ap, ◌∙◌}
 use mathlib.Core.Option.{none}
 use mathlib.Core.List.{List, [], ◌∷◌}
-use mathlib.Core.Bool.{Bool, true, false}
-use lib.ListN.{length, drop, get_or, drop_of_length-le, length-drop}
-use lib.Seq.{drop-cons}
+use mathlib.Core.Bool.{Bool, true, false, cond}
+use Rattle.std.specs.List.{position_or_len}
+use Rattle.std.proofs.lemmas.List.Recursion.{is_position_or_len}
+use Rattle.std.proofs.Math.Seq.{take-length}
+use lib.ListN.{length, take, drop, length-drop}
 use lib.Dec.{eqb, ltb}
-use Rattle.std.specs.Prelude.{Option as Taken, Some, None, Result as Answer, Ok, Err}
+use Rattle.std.specs.Prelude.{Option as Found, Some, None, ok_or, Result as Answer, Ok, Err}
 use Rattle.text.specs.declared.TextLocation.{TextLocation}
-use Rattle.lexical.specs.declared.ParseError.{ParseError}
 use Rattle.text.specs.Place.{pick, has_left, along_line, past_line, rest, after, past, byte_of, peeked, peeked_at}
 use Rattle.text.specs.Rest.{Sound, newlines}
 use Rattle.text.proofs.Rest.{after-rest}
@@ -22,23 +22,9 @@ use Rattle.text.proofs.PlaceLaws.{sound-rest, left-inside, left-none, along-past
 use Rattle.text.specs.Reader.{Result, ok, stop, then, ◌>>=◌}
 use Rattle.text.specs.Leaf.{one, run, scan}
 use Rattle.lexical.specs.declared.XbmPart.{XbmPart}
-use Rattle.lexical.specs.Lexical.{number, told, byte, skip, lead, leading}
+use Rattle.lexical.specs.declared.ParseError.{ParseError}
+use Rattle.lexical.specs.Lexical.{number, told, is, byte, skip, lead, leading}
 use Rattle.leading.specs.Line.{line_of, in_line, line_rest}
-
--- ---- where a line ends
-
--- i is reached in the search from `from` on
-module _ (s : List ℕ) (from i : ℕ) (e : i + length (line_of (drop i s)) ≡ from + length (line_of (drop from s))) where
-  pub end-here : i < length s → get_or s i 0 ≡ 10 → i ≡ from + length (line_of (drop from s))
-  end-here h k = let z : length (line_of (drop i s)) ≡ 0 = rw (drop-cons s i 0 h, eq-eqb _ _ k) in omega arith
-
-  pub end_on : i < length s → (get_or s i 0 ≡ 10 → ⊥) → i + 1 + length (line_of (drop (i + 1) s)) ≡ from + length (line_of (drop from s))
-  end_on h k = let z : length (line_of (drop i s)) ≡ suc (length (line_of (drop (i + 1) s))) = rw (add-one, drop-cons s i 0 h, ne_eqb _ _ k) in omega arith
-
-  pub end_none : length s ≤ i → i ≡ from + length (line_of (drop from s))
-  end_none h = let z : length (line_of (drop i s)) ≡ 0 = rw (drop_of_length-le s h) in omega arith
-
-pub ruleset end_laws = (end-here, end_on, end_none)
 
 -- ---- the rest of a line, by what remains
 
@@ -91,15 +77,30 @@ line_plain (b ∷ l) = go (eqb b 10) refl (line_plain l)
     go true h ih = refl
     go false h ih = rw (h, zero-add) ih
 
+-- where the first newline is
+abbrev pub newline_in : List ℕ → Found ℕ
+newline_in l = cond (ltb (position_or_len (is 10) l) (length l)) (Some (position_or_len (is 10) l)) None
+
+newline-is : (l : List ℕ) → newline_in l ≡ cond (ltb (length (line_of l)) (length l)) (Some (length (line_of l))) None
+newline-is l = rw (is_position_or_len (λ m. length (line_of m)) (is 10) refl (λ x m. go x m (eqb x 10)) l) refl
+  where
+    go : (x : ℕ) (m : List ℕ) (w : Bool) → length (pick w [] (x ∷ line_of m)) ≡ cond w 0 (1 + length (line_of m))
+    go x m true = refl
+    go x m false = omega arith
+
+-- what remains, as it is lent
+abbrev pub left : List ℕ → TextLocation → List ℕ
+left t p = take (length t - byte_of p) (drop (byte_of p) t)
+
 -- ---- skipping the rest of a line at a place
 
 module _ (c : ℕ) (t : List ℕ) (p : TextLocation) {f : Bool} (g : f ≡ has_left t p 1) where
   pub line-none : f ≡ false → stop c p ≡ line_rest c t p
   line-none h = sym (line_at c t [] p (left-none t p (sym g ∙ h)))
 
-  module _ (h : f ≡ true) {e : ℕ} (k : e ≡ byte_of p + length (line_of (drop (byte_of p) t))) (m : length t * 1 < 2 ^ 63) where
-    size : e - byte_of p ≡ length (line_of (drop (byte_of p) t))
-    size = omega arith
+  module _ (h : f ≡ true) (m : length t * 1 < 2 ^ 63) where
+    left-all : left t p ≡ drop (byte_of p) t
+    left-all = rw (← length-drop (byte_of p) t) (take-length (drop (byte_of p) t))
 
     inside : byte_of p + 1 ≤ length t
     inside = (left-inside t p 1 (sym g ∙ h)).0
@@ -107,18 +108,28 @@ module _ (c : ℕ) (t : List ℕ) (p : TextLocation) {f : Bool} (g : f ≡ has_l
     sound : Sound p
     sound = (left-inside t p 1 (sym g ∙ h)).1
 
-    pub line-to : {q : TextLocation} → e < length t → q ≡ past_line p (e - byte_of p) → ok tt q ≡ line_rest c t p
-    line-to l w =
-        let x : length (line_of (drop (byte_of p) t)) < length (drop (byte_of p) t) = omega (arith, inside, length-drop (byte_of p) t) in
-        sym (line_at c t (drop (byte_of p) t) p (sound-rest t p sound)
-        ∙ rw (lt-ltb _ _ x, w, size, line-past p (line_of (drop (byte_of p) t)) sound (line_plain (drop (byte_of p) t)) (omega arith)))
+    remains : rest t p ≡ (left t p)
+    remains = sound-rest t p sound ∙ sym left-all
 
-    pub line-out : {q : TextLocation} → length t ≤ e → q ≡ along_line p (e - byte_of p) → stop c q ≡ line_rest c t p
-    line-out l w =
-        let x : length (drop (byte_of p) t) ≤ length (line_of (drop (byte_of p) t)) = omega (arith, inside, length-drop (byte_of p) t) in
-        let y : byte_of p + length (line_of (drop (byte_of p) t)) < 2 ^ 64 = omega (arith, inside, line-short (drop (byte_of p) t), length-drop (byte_of p) t) in
-        sym (line_at c t (drop (byte_of p) t) p (sound-rest t p sound)
-        ∙ rw (le-ltb _ _ x, w, size, along-past p (line_of (drop (byte_of p) t)) sound (line_plain (drop (byte_of p) t)) y))
+    left-size : byte_of p + length (left t p) ≤ length t
+    left-size = omega (arith, inside, ap length left-all, length-drop (byte_of p) t)
+
+    pub line-to : {r : Found ℕ} {n : ℕ} {q : TextLocation} → r ≡ newline_in (left t p) → r ≡ Some n → q ≡ past_line p n → ok tt q ≡ line_rest c t p
+    line-to {r} {n} {q} e k w = sym (line_at c t (left t p) p remains ∙ go (ltb (length (line_of (left t p))) (length (left t p))) (e ∙ newline-is (left t p)))
+      where
+        go : (x : Bool) → r ≡ cond x (Some (length (line_of (left t p)))) None → pick x (ok (tt {0}) (after 10 (past p (line_of (left t p))))) (stop c (past p (line_of (left t p)))) ≡ ok (tt {0}) q
+        go true u = let z : length (line_of (left t p)) ≡ n = cc in rw (w, ← z, line-past p (line_of (left t p)) sound (line_plain (left t p)) (omega (arith, left-size, line-short (left t p))))
+        go false u = cc
+
+    pub line-out : {r : Found ℕ} {q : TextLocation} → r ≡ newline_in (left t p) → r ≡ None → q ≡ along_line p (length (left t p)) → stop c q ≡ line_rest c t p
+    line-out {r} {q} e k w = sym (line_at c t (left t p) p remains ∙ go (ltb (length (line_of (left t p))) (length (left t p))) refl (e ∙ newline-is (left t p)))
+      where
+        go : (x : Bool) → ltb (length (line_of (left t p))) (length (left t p)) ≡ x → r ≡ cond x (Some (length (line_of (left t p)))) None → pick x (ok (tt {0}) (after 10 (past p (line_of (left t p))))) (stop c (past p (line_of (left t p)))) ≡ stop c q
+        go true v u = cc
+        go false v u = let z : length (left t p) ≡ length (line_of (left t p)) = omega (arith, ltb-false (length (line_of (left t p))) (length (left t p)) v, line-short (left t p)) in rw (w, z, along-past p (line_of (left t p)) sound (line_plain (left t p)) (omega (arith, left-size, line-short (left t p))))
+
+same_error : {A : Type 0} {x y : ParseError} → ◌≡◌ {A = Answer A ParseError} (Err x) (Err y) → x ≡ y
+same_error h = cc
 
 -- ---- lines before the first define line
 
@@ -133,7 +144,7 @@ lead-line c t (b ∷ l) i e = go (eqb b 10) refl (lead-line c t l (after b i) (a
     go true h ih = rw (line-newline c t i b e h, e, h, after-rest t i e)
     go false h ih = rw (line_other c t i b e h, e, h) (rw (after-rest t i e) at ih)
 
-found : (t : List ℕ) (i : TextLocation) {r : Taken ℕ} {b : ℕ} → r ≡ peeked_at t i → r ≡ Some b → (l : List ℕ) × (rest t i ≡ b ∷ l)
+found : (t : List ℕ) (i : TextLocation) {r : Found ℕ} {b : ℕ} → r ≡ peeked_at t i → r ≡ Some b → (l : List ℕ) × (rest t i ≡ b ∷ l)
 found t i {r} {b} e m = go (rest t i) refl e
   where
     go : (l : List ℕ) → rest t i ≡ l → r ≡ peeked l → (k : List ℕ) × (rest t i ≡ b ∷ k)
@@ -141,12 +152,12 @@ found t i {r} {b} e m = go (rest t i) refl e
     go (x ∷ l) h u = let y : x ≡ b = cc in (l, h ∙ ap (λ (n : ℕ). n ∷ l) y)
 
 -- z is what skipping all lines gives
-module _ (c : ℕ) (t : List ℕ) (i : TextLocation) {z : Result (Unit {0})} {r : Taken ℕ} (e : r ≡ peeked_at t i) where
+module _ (c : ℕ) (t : List ℕ) (i : TextLocation) {z : Result (Unit {0})} {r : Found ℕ} (e : r ≡ peeked_at t i) where
   pub lines-found : {b : ℕ} → r ≡ Some b → b ≡ 35 → leading c true t i ≡ z → ok tt i ≡ z
   unfolding leading run
   lines-found {b} m h k = let (l, f) = found t i e m in rw (f, eq-eqb b 35 h) at k
 
-  pub lines_none : r ≡ None → leading c true t i ≡ z → stop c i ≡ z
+  lines_none : r ≡ None → leading c true t i ≡ z → stop c i ≡ z
   unfolding leading run
   lines_none m k = go (rest t i) e k
     where
@@ -162,11 +173,8 @@ module _ (c : ℕ) (t : List ℕ) (i : TextLocation) {z : Result (Unit {0})} {r 
     pub lines-on : {q : TextLocation} → s ≡ Ok q → leading c true t q ≡ z
     lines-on {q} n = ap (λ (x : Result (Unit {0})). then x (λ a e. leading c true t e)) (sym (ap told n) ∙ g) ∙ skipped m h k
 
-    lines-stop : {x : ParseError} → s ≡ Err x → stop (number x.part) x.place ≡ z
-    lines-stop n = ap (λ (x : Result (Unit {0})). then x (λ a e. leading c true t e)) (sym (ap told n) ∙ g) ∙ skipped m h k
-
-    pub lines_end : {x : ParseError} {d : Answer TextLocation ParseError} → s ≡ Err x → d ≡ Err x → told d ≡ z
-    lines_end n v = rw v (lines-stop n)
+    pub lines_end : {x : ParseError} {r : Answer TextLocation ParseError} → s ≡ Err x → r ≡ Err x → told r ≡ z
+    lines_end {x} n u = ap told u ∙ ap (λ (x : Result (Unit {0})). then x (λ a e. leading c true t e)) (sym (ap told n) ∙ g) ∙ skipped m h k
 
 -- a line skipped leaves fewer bytes
 line-less : (c : ℕ) (t l : List ℕ) (i q : TextLocation) → rest t i ≡ l → ok tt q ≡ line_rest c t i → length (rest t q) < length l
@@ -182,4 +190,9 @@ lines-less c t i {s} {q} g n = line-less c t (rest t i) i q refl (sym (ap told n
 
 pub ruleset line_laws = (line-none, line-to, line-out)
 
-pub ruleset lines_laws = (lines-found, lines_none, lines-on, lines_end, lines-less)
+-- the exit of a `?` on a look at the next byte
+pub lines-over : (part : XbmPart) (t : List ℕ) (i : TextLocation) {z : Result (Unit {0})} {r : Found ℕ} {m : Answer TextLocation ParseError} {x : ParseError} → r ≡ peeked_at t i → r ≡ None
+    → Err x ≡ ok_or r (record { part = part; place = i }) → m ≡ Err x → leading (number part) true t i ≡ z → told m ≡ z
+lines-over part t i {x = x} e n u h k = let y : x ≡ record { part = part; place = i } = same_error (rw n at u) in rw (h, y) (lines_none (number part) t i e n k)
+
+pub ruleset lines_laws = (lines-found, lines-over, lines-on, lines_end, lines-less)

@@ -1,42 +1,28 @@
 // The lines before the first define line, skipped whole. Only this crate knows how a line's end is found.
 #![tactic(auto)]
 
-ghost use Rattle.std.specs.Prelude.{true, ◌≡◌, ◌+◌, length, drop};
+ghost use Rattle.std.specs.Prelude.{true, ◌≡◌};
 ghost use Rattle.lexical.specs.Lexical.{number, told, leading};
-ghost use Rattle.leading.specs.Line.{line_of, line_rest};
+ghost use Rattle.leading.specs.Line.{line_rest};
 
 use lexical::{ParseError, XbmPart};
 use text::{TextLocation, along, has_left, past_line, peek};
-
-// The first newline at or after `from`, or the end.
-fn line_end(text: &[u8], from: usize) -> usize
-    ensures { result ≡ from + length (line_of (drop from text.now)) }
-{
-    let mut i = from;
-    while i < text.len() {
-        if text[i] == b'\n' {
-            return i;
-        }
-        i += 1;
-    }
-    i
-}
 
 // The rest of a line, with its newline.
 fn skip_line(text: &[u8], place: TextLocation, part: XbmPart) -> Result<TextLocation, ParseError>
     ensures { told result ≡ line_rest (number part) text.now place }
 {
-    if has_left(text, place, 1) {
-        let from = place.byte.0 as usize;
-        let end = line_end(text, from);
-        let size = (end - from) as u64;
-        if end < text.len() {
-            return Ok(past_line(place, size));
-        }
-        let place = along(place, size);
+    if !has_left(text, place, 1) {
         return Err(ParseError { part, place });
     }
-    Err(ParseError { part, place })
+    let left = &text[place.byte.0 as usize..];
+    match left.iter().position(|b| *b == b'\n') {
+        Some(size) => Ok(past_line(place, size as u64)),
+        None => Err(ParseError {
+            part,
+            place: along(place, left.len() as u64),
+        }),
+    }
 }
 
 // Skip whole lines, up to the first that begins with `#`.
@@ -48,11 +34,8 @@ pub fn skip_non_define_lines(
     ensures { told result ≡ leading (number part) true text.now place }
 {
     let mut at = place;
-    while let Some(b) = peek(text, at) {
-        if b == b'#' {
-            return Ok(at);
-        }
+    while peek(text, at).ok_or(ParseError { part, place: at })? != b'#' {
         at = skip_line(text, at, part)?;
     }
-    Err(ParseError { part, place: at })
+    Ok(at)
 }

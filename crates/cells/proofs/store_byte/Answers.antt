@@ -9,8 +9,5 @@ returns-then-width-eq0 c = search (storing_laws, rules)
 pub returns-then-y-pixels : goal.returns-then-y-pixels
 returns-then-y-pixels c = search (storing_laws, rules)
 
-pub returns-then-left-gt8 : goal.returns-then-left-gt8
-returns-then-left-gt8 c = search (storing_laws, rules)
-
 pub returns : goal.returns
 returns c = search (storing_laws, rules)

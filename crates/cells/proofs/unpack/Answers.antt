@@ -3,5 +3,5 @@ use Rattle.std.proofs.Common.{rules}
 use Rattle.cells.proofs.Stores.{dabbing_laws}
 use Rattle.cells.proofs.unpack.Goals as goal
 
-pub loop-i-preserved : goal.loop-i-preserved
-loop-i-preserved c = search (dabbing_laws, rules)
+pub loop-cell-preserved : goal.loop-cell-preserved
+loop-cell-preserved c = search (dabbing_laws, rules)

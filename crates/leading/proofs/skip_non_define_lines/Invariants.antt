@@ -6,8 +6,8 @@ use Rattle.text.specs.Place.{rest}
 use Rattle.lexical.specs.Lexical.{number, leading}
 use Rattle.leading.proofs.skip_non_define_lines.Given as goal
 
-abbrev pub invariant-loop-b : goal.invariant-loop-b
-invariant-loop-b l = leading (number l.part) true l.text l.at ≡ leading (number l.part) true l.text l.initial.at
+abbrev pub invariant-loop-at : goal.invariant-loop-at
+invariant-loop-at l = leading (number l.part) true l.text l.at ≡ leading (number l.part) true l.text l.initial.at
 
-abbrev pub decreases-loop-b : goal.decreases-loop-b
-decreases-loop-b l = length (rest l.text l.at)
+abbrev pub decreases-loop-at : goal.decreases-loop-at
+decreases-loop-at l = length (rest l.text l.at)
