@@ -5,7 +5,6 @@ use mathlib.Core.List.{List}
 use lib.IntN.{ℤ}
 use Rattle.std.specs.Prelude.{Result, Ok, Err}
 use Rattle.text.specs.declared.TextLocation.{TextLocation}
-use Rattle.text.specs.Reader.{Reader, ◌>>=◌}
 use Rattle.text.specs.Outcome.{Outcome, accepted, unplaced, Ended, ending_at, shown}
 use Rattle.text.specs.Leaf.{need}
 use Rattle.integer.specs.declared.Fault.{Fault}
