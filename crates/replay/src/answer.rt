@@ -1,8 +1,8 @@
 // Our answer for a text, told as a record tells the original's.
 use crate::buffers::{fill, sum};
-use error::{Refusal, refusal_of};
-use header::{Hotspot, XbmHeaderData};
-use image::{ImageRead, read_image};
+use error::Refusal;
+use header::XbmHeaderData;
+use image::read_image;
 use stored::{Position, Size, Spot, Symbol, Told};
 use text::TextLocation;
 
@@ -23,12 +23,9 @@ fn position(place: TextLocation) -> Position {
 }
 
 fn refused(refusal: Refusal) -> Told {
-    match refusal {
-        Refusal::Placed(number, place) => Told {
-            place: position(place),
-            ..silent(u64::from(number))
-        },
-        Refusal::Unplaced(number) => silent(u64::from(number)),
+    Told {
+        place: refusal.place.map_or(Position::default(), position),
+        ..silent(u64::from(refusal.number))
     }
 }
 
@@ -37,10 +34,10 @@ fn raised(z: i32) -> u64 {
     u64::from(z.abs_diff(i32::MIN))
 }
 
-fn spot(hotspot: Hotspot) -> Spot {
+fn spot(hotspot: Option<(i32, i32)>) -> Spot {
     match hotspot {
-        Hotspot::Absent => Spot::default(),
-        Hotspot::At(x, y) => Spot {
+        None => Spot::default(),
+        Some((x, y)) => Spot {
             count: 1,
             x: raised(x),
             y: raised(y),
@@ -59,25 +56,21 @@ fn accepted(data: XbmHeaderData) -> Told {
     }
 }
 
-fn told_by(image: ImageRead) -> Told {
-    match image {
-        ImageRead::Read(data) => accepted(data),
-        ImageRead::Refused(error) => refused(refusal_of(error)),
-        ImageRead::DimensionMismatch => silent(31),
-    }
-}
-
 // The answer for a text, with these buffers, which are filled first.
 pub fn answer(text: &[u8], name: &mut [u8], pixels: &mut [u8]) -> Told {
     fill(name);
     fill(pixels);
     let read = read_image(text, name, pixels);
+    let told = match read.image {
+        Ok(data) => accepted(data),
+        Err(error) => refused(error.into()),
+    };
     Told {
         name: Symbol {
             length: read.name as u64,
             sum: sum(name),
         },
         pixel_sum: sum(pixels),
-        ..told_by(read.image)
+        ..told
     }
 }

@@ -2,6 +2,7 @@
 #![tactic(auto)]
 
 use answer::answer;
+use input::read_input;
 use report::{is_given, print_malformed, print_summary};
 use std::fs;
 use std::io::{self, Read};
@@ -21,17 +22,22 @@ impl From<io::Error> for Malformed {
     }
 }
 
-// The count of cases that a list begins with.
-fn read_count<R: Read>(list: &mut R) -> Result<u64, Malformed> {
+// The count of cases that a list begins with, and 0 if it begins otherwise: such a list has no case.
+fn read_count<R: Read>(list: &mut R) -> u64 {
     let mut magic = [0u8; 8];
     let mut count = [0u8; 4];
-    list.read_exact(&mut magic)?;
-    list.read_exact(&mut count)?;
-    if magic == *b"xbm list" {
-        Ok(number_at(&count, 0))
-    } else {
-        Err(Malformed)
+    let _ = read_input(list, &mut magic);
+    if magic != *b"xbm list" {
+        return 0;
     }
+    let _ = read_input(list, &mut count);
+    number_at(&count, 0)
+}
+
+// Whether nothing is left of the list.
+fn is_at_end<R: Read>(list: &mut R) -> bool {
+    let mut more = [0u8; 1];
+    read_input(list, &mut more).unwrap_or(0) == 0
 }
 
 // One more case with this number, if it is one that the original gives.
@@ -70,9 +76,7 @@ fn replay_case<R: Read>(
 
 // Every case of the list, and then the summary.
 fn replay<R: Read>(list: &mut R, to: &impl Print) -> io::Result<()> {
-    let Ok(cases) = read_count(list) else {
-        return print_malformed(to, 0);
-    };
+    let cases = read_count(list);
     let mut text = [0u8; ROOM];
     let mut tally = [0u64; NUMBERS];
     let mut differences: u64 = 0;
@@ -85,7 +89,7 @@ fn replay<R: Read>(list: &mut R, to: &impl Print) -> io::Result<()> {
             differences = differences.wrapping_add(1);
         }
     }
-    if list.bytes().next().is_some() {
+    if !is_at_end(list) {
         return print_malformed(to, cases);
     }
     print_summary(to, cases, differences, &tally)
