@@ -1,9 +1,7 @@
 -- Worked examples, computed from the definitions: the rows of one table, by one claim. The text is mask M's first line.
-use Rattle.std.specs.Prelude.{ℕ, ◌≡◌, refl, List, [], ◌∷◌, map}
+use Rattle.std.specs.Prelude.{ℕ, ◌≡◌, refl, List, [], ◌∷◌, map, Option, Some, None}
 use Rattle.text.specs.Ascii.{ascii}
 use Rattle.text.specs.declared.TextLocation.{TextLocation}
-use Rattle.text.specs.declared.Peeked.{Peeked}
-use Rattle.text.specs.declared.Peeked.TheVariants.{Found, Nothing}
 use Rattle.text.specs.Place.{start, place_of, rest, after}
 use Rattle.text_reader.specs.declared.Moved.{Moved}
 use Rattle.text_reader.specs.TextReader.{moved_at}
@@ -16,26 +14,26 @@ record Row : Type 0 where
   place : TextLocation
   answer : Moved
 
-abbrev row : TextLocation → Peeked → TextLocation → Row
+abbrev row : TextLocation → Option ℕ → TextLocation → Row
 row p a q = record { place = p; answer = record { location = q; answer = a } }
 
 abbrev rows : List Row
 rows =
     -- the first two bytes, `#` and `d`
-    row start (Found 35) (place_of 1 1 1 0)
-    ∷ row (place_of 1 1 1 0) (Found 100) (place_of 2 1 2 0)
+    row start (Some 35) (place_of 1 1 1 0)
+    ∷ row (place_of 1 1 1 0) (Some 100) (place_of 2 1 2 0)
     -- the newline starts a line, at column 0 and byte 18
-    ∷ row (place_of 17 1 17 0) (Found 10) (place_of 18 2 0 18)
+    ∷ row (place_of 17 1 17 0) (Some 10) (place_of 18 2 0 18)
     -- the end
-    ∷ row (place_of 18 2 0 18) Nothing (place_of 18 2 0 18)
+    ∷ row (place_of 18 2 0 18) None (place_of 18 2 0 18)
     -- foreign: a byte past the end, a column above its byte, a line above its byte plus one, a start that is not its byte less its column
-    ∷ row (place_of 19 2 1 18) Nothing (place_of 19 2 1 18)
-    ∷ row (place_of 3 1 4 0) Nothing (place_of 3 1 4 0)
-    ∷ row (place_of 3 5 0 3) Nothing (place_of 3 5 0 3)
-    ∷ row (place_of 3 1 1 1) Nothing (place_of 3 1 1 1)
-    ∷ row (place_of 3 1 1 3) Nothing (place_of 3 1 1 3)
-    ∷ row (place_of 5 1 0 0) Nothing (place_of 5 1 0 0)
-    ∷ row (place_of 5 1 5 18446744073709551615) Nothing (place_of 5 1 5 18446744073709551615)
+    ∷ row (place_of 19 2 1 18) None (place_of 19 2 1 18)
+    ∷ row (place_of 3 1 4 0) None (place_of 3 1 4 0)
+    ∷ row (place_of 3 5 0 3) None (place_of 3 5 0 3)
+    ∷ row (place_of 3 1 1 1) None (place_of 3 1 1 1)
+    ∷ row (place_of 3 1 1 3) None (place_of 3 1 1 3)
+    ∷ row (place_of 5 1 0 0) None (place_of 5 1 0 0)
+    ∷ row (place_of 5 1 5 18446744073709551615) None (place_of 5 1 5 18446744073709551615)
     ∷ []
 
 pub table : map (λ r. moved_at line r.place) rows ≡ map (λ r. r.answer) rows

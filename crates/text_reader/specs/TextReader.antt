@@ -1,7 +1,6 @@
 -- A text reader: what its calls answer, and the reader after them.
-use Rattle.std.specs.Prelude.{ℕ, List, [], ◌∷◌}
+use Rattle.std.specs.Prelude.{ℕ, List, [], ◌∷◌, Option}
 use Rattle.text.specs.declared.TextLocation.{TextLocation}
-use Rattle.text.specs.declared.Peeked.{Peeked}
 use Rattle.text.specs.Place.{rest, after, peeked_at}
 use Rattle.text_reader.specs.declared.Moved.{Moved}
 use Rattle.text_reader.specs.declared.TextReader.{TextReader}
@@ -19,7 +18,7 @@ abbrev pub moved_at : List ℕ → TextLocation → Moved
 moved_at t p = record { location = onward_at t p; answer = peeked_at t p }
 
 -- the byte that a reader stands before
-abbrev pub next_of : TextReader → Peeked
+abbrev pub next_of : TextReader → Option ℕ
 next_of r = peeked_at r.text.now r.location
 
 -- a reader after a byte was taken: the same text, at the place after it

@@ -5,13 +5,13 @@ ghost use Rattle.std.specs.Prelude.{◌≡◌};
 ghost use Rattle.text.specs.Place.{start};
 ghost use Rattle.text_reader.specs.TextReader.{moved_at, next_of, moved_on};
 
-use text::{Peeked, TextLocation, Took, beginning, take};
+use text::{TextLocation, beginning, take};
 
 // What taking a byte gives: the place after it, and the byte.
-#[derive(Clone, Copy)]
+#[derive(Clone, Copy, Debug, PartialEq, Eq)]
 pub struct Moved {
     pub location: TextLocation,
-    pub answer: Peeked,
+    pub answer: Option<u8>,
 }
 
 // Takes the byte at a place. At the end nothing moves; a foreign place is as the end.
@@ -19,13 +19,13 @@ pub fn next_at(text: &[u8], place: TextLocation) -> Moved
     ensures { result ≡ moved_at text.now place }
 {
     match take(text, place) {
-        Took::Next(b, next) => Moved {
+        Some((b, next)) => Moved {
             location: next,
-            answer: Peeked::Found(b),
+            answer: Some(b),
         },
-        Took::End => Moved {
+        None => Moved {
             location: place,
-            answer: Peeked::Nothing,
+            answer: None,
         },
     }
 }
@@ -49,7 +49,7 @@ impl<'a> TextReader<'a> {
     }
 
     // Consume the next byte. At the end, nothing.
-    pub fn next(&mut self) -> Peeked
+    pub fn next(&mut self) -> Option<u8>
         ensures { (result ≡ next_of self.old) × (self.new ≡ moved_on self.old) }
     {
         let moved = next_at(self.text, self.location);
@@ -58,7 +58,7 @@ impl<'a> TextReader<'a> {
     }
 
     // Peek at the next byte. At the end, nothing.
-    pub fn peek(&self) -> Peeked
+    pub fn peek(&self) -> Option<u8>
         ensures { result ≡ next_of self.now }
     {
         text::peek(self.text, self.location)
