@@ -1,38 +1,28 @@
 -- What a step of the code says of the header's text.
-use mathlib.Core.Path.{◌≡◌, sym, ap, ◌∙◌}
-use Prim.Native.Nat.{ℕ}
+use Rattle.std.specs.Prelude.{ℕ, ◌<◌, ◌^◌, List, ℤ}
+use Rattle.std.specs.Fmt as Printed
+use Rattle.std.specs.Int.RustNames.{FitsSigned}
 use mir.Syntax.{w32}
-use mir.Val.{SFits, to_z, of_z}
+use mir.Val.{to_z, of_z}
 use mir.ValLaws.{to_z-of_z}
-use mathlib.Core.List.{List, [], ◌++◌}
-use lib.IntN.{ℤ}
+use Rattle.print.specs.declared.Buffer.{Buffer}
+use Rattle.print.specs.Decimal.{decimal, signed}
+use Rattle.print.specs.Puts.{Puts}
+use Rattle.std.proofs.Math.Option.{some}
 use Rattle.text.specs.Ascii.{ascii}
-use Rattle.header.specs.declared.Hotspot.{Hotspot}
-use Rattle.header.specs.declared.Hotspot.TheVariants.{Absent, At}
-use Rattle.header.specs.Answer.{hot_of}
-use Rattle.print.specs.Output.{Output, output, puts, joined}
-use Rattle.print.proofs.Output.{puts-append}
-use Rattle.print.specs.Decimal.{signed}
-use Rattle.print.proofs.Laws.{joined_laws}
-use Rattle.header_text.specs.HeaderText.{start_text, define_text, spot_text}
+use Rattle.print.proofs.Steps.{puts-two}
+use Rattle.print.proofs.Decimal.{decimal-printed, signed-printed}
+use Rattle.header_text.specs.HeaderText.{define_text, spot_text}
 
-module _ (name : List ℕ) (s : List ℕ) (n : ℕ) {h : Hotspot} where
-  pub spot-absent : h ≡ Absent → output s n ≡ puts (spot_text name (hot_of h)) (output s n)
-  unfolding puts
-  spot-absent e = rw e
+module _ (name : List ℕ) {o o' : Buffer} where
+  pub side_put : (ending : List ℕ) (n : ℕ) → n < 2 ^ 64 → Puts (define_text name ending (Printed.decimal n)) o o' → Puts (define_text name ending (decimal n)) o o'
+  side_put ending n h p = rw (← decimal-printed n h) p
 
-  pub spot-at : {x y : ℤ} {s₁ : List ℕ} {n₁ : ℕ} {z : Output} → h ≡ At x y → output s₁ n₁ ≡ puts (define_text name (ascii "_x_hot") (signed x)) (output s n) → z ≡ puts (define_text name (ascii "_y_hot") (signed y)) (output s₁ n₁)
-      → z ≡ puts (spot_text name (hot_of h)) (output s n)
-  spot-at {x} {y} e a b = rw e (search (a, b, joined_laws))
+  -- what a call is given of a number with a sign is read off its bits
+  coordinate-put : (ending : List ℕ) (z : ℤ) → FitsSigned w32 z → Puts (define_text name ending (Printed.signed_decimal (to_z w32 (of_z w32 z)))) o o' → Puts (define_text name ending (signed z)) o o'
+  coordinate-put ending z h p = rw (← signed-printed z h) (rw (to_z-of_z w32 z h) at p)
 
-pub ruleset head_laws = (spot-absent, spot-at, joined_laws)
-
--- a number with a sign; what the call is given of it is read off its bits
-pub coordinate-put : (name ending : List ℕ) (z : ℤ) (o o₁ o₂ r : Output) → SFits w32 z → o₁ ≡ puts (start_text name ending) o → o₂ ≡ puts (signed (to_z w32 (of_z w32 z))) o₁ → r ≡ puts (ascii "\n") o₂ → r ≡ puts (define_text name ending (signed z)) o
-unfolding joined
-coordinate-put name ending z o o₁ o₂ r h a b c =
-    let d : o₂ ≡ puts (signed z) (puts (start_text name ending) o) = b ∙ ap (λ (x : ℤ). puts (signed x) o₁) (to_z-of_z w32 z h) ∙ ap (puts (signed z)) a in
-    c ∙ ap (puts (ascii "\n")) d
-    ∙ sym
-    (puts-append (start_text name ending) (signed z ++ (ascii "\n" ++ [])) o
-    ∙ puts-append (signed z) (ascii "\n" ++ []) (puts (start_text name ending) o))
+module _ (name : List ℕ) {o o₁ o' : Buffer} where
+  pub spot-put : (x y : ℤ) → FitsSigned w32 x → FitsSigned w32 y → Puts (define_text name (ascii "_x_hot") (Printed.signed_decimal (to_z w32 (of_z w32 x)))) o o₁
+      → Puts (define_text name (ascii "_y_hot") (Printed.signed_decimal (to_z w32 (of_z w32 y)))) o₁ o' → Puts (spot_text name (some (x, y))) o o'
+  spot-put x y h k p q = puts-two _ _ (coordinate-put name (ascii "_x_hot") x h p) (coordinate-put name (ascii "_y_hot") y k q)

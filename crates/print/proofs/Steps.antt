@@ -1,5 +1,5 @@
 -- What a step of the code says of the lent buffer.
-use Rattle.std.specs.Prelude.{ℕ, ◌+◌, ◌<◌, ◌^◌, List, [], ◌∷◌, ◌++◌, refl, ℤ}
+use Rattle.std.specs.Prelude.{◌≡◌, ℕ, ◌+◌, ◌<◌, ◌^◌, List, [], ◌∷◌, ◌++◌, refl, ℤ}
 use Rattle.std.proofs.Common.{sym, ap, ◌∙◌}
 use Rattle.std.proofs.lemmas.List.{take_more}
 use lib.ListN.{length, take, get_or}
@@ -10,7 +10,7 @@ use mir.Syntax.{w32}
 use Rattle.print.specs.Decimal.{decimal, signed}
 use Rattle.print.proofs.Decimal.{decimal-printed, signed-printed}
 use Rattle.print.specs.declared.Buffer.{Buffer}
-use Rattle.print.specs.Output.{puts, joined}
+use Rattle.print.specs.Output.{output, puts, joined}
 use Rattle.print.specs.Puts.{Puts, held}
 use Rattle.print.proofs.Output.{puts-append}
 
@@ -25,16 +25,7 @@ module _ {o o' o'' : Buffer} where
   pub puts-more : (s : List ℕ) (i : ℕ) → i < length s → Puts (take i s) o o' → Puts (get_or s i 0 ∷ []) o' o'' → Puts (take (i + 1) s) o o''
   puts-more s i h p q = rw (take_more s i 0 h) (puts-then (take i s) (get_or s i 0 ∷ []) p q)
 
-  -- a word of several
-  pub puts-joined : (w : List ℕ) (l : List (List ℕ)) → Puts w o o' → Puts (joined l) o' o'' → Puts (joined (w ∷ l)) o o''
-  unfolding joined
-  puts-joined w l p q = puts-then w (joined l) p q
-
 module _ {o o' : Buffer} where
-  pub puts-last : (w : List ℕ) → Puts w o o' → Puts (joined (w ∷ [])) o o'
-  unfolding joined
-  puts-last w p = rw (append-nil w) p
-
   -- a number as the library prints it
   pub puts-decimal : (n : ℕ) → n < 2 ^ 64 → Puts (Printed.decimal n) o o' → Puts (decimal n) o o'
   puts-decimal n h p = rw (← decimal-printed n h) p
@@ -44,4 +35,25 @@ module _ {o o' : Buffer} where
 
 pub ruleset loop_laws = (puts-none, puts-more)
 
-pub ruleset joined_laws = (puts-joined, puts-last, puts-decimal, puts-signed)
+-- words of several
+module _ {o o₁ o₂ : Buffer} (u v : List ℕ) (p : Puts u o o₁) (q : Puts v o₁ o₂) where
+  pub puts-two : Puts (joined (u ∷ v ∷ [])) o o₂
+  unfolding joined
+  puts-two = rw (append-nil v) (puts-then u v p q)
+
+  module _ {o₃ : Buffer} (w : List ℕ) (r : Puts w o₂ o₃) where
+    pub puts-three : Puts (joined (u ∷ v ∷ w ∷ [])) o o₃
+    unfolding joined
+    puts-three = rw (append-nil w) (puts-then u (v ++ w) p (puts-then v w q r))
+
+    pub puts-four : {o₄ : Buffer} (x : List ℕ) → Puts x o₃ o₄ → Puts (joined (u ∷ v ∷ w ∷ x ∷ [])) o o₄
+    unfolding joined
+    puts-four x s = rw (append-nil x) (puts-then u (v ++ (w ++ x)) p (puts-then v (w ++ x) q (puts-then w x r s)))
+
+pub ruleset joined_laws = (puts-two, puts-three, puts-four)
+
+pub ruleset number_laws = (puts-decimal, puts-signed)
+
+-- the buffer that was lent, when the struct is done with
+pub puts-end : {o o' : Buffer} {w s : List ℕ} → Puts w o o' → s ≡ o'.bytes.now → output s o'.at ≡ puts w (output o.bytes.now o.at)
+puts-end p e = rw e p.gives

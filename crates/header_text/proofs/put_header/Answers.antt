@@ -1,9 +1,15 @@
 -- What the search leaves of `put_header`.
 use Rattle.std.proofs.Common.{rules}
-use Rattle.header_text.proofs.Laws.{head_laws}
+use Rattle.print.specs.Puts.{Puts}
+use Rattle.print.proofs.Steps.{puts-four, puts-end}
+use Rattle.header_text.proofs.Laws.{side_put}
 use Rattle.header_text.specs.HeaderText.{head_text}
+use Rattle.header.specs.Answer.{hot_of}
 use Rattle.header_text.proofs.put_header.Goals as goal
 
 pub returns : goal.returns
 unfolding head_text
-returns c = search (head_laws, rules)
+returns c =
+    let p : Puts (head_text c.args.name.now c.args.width c.args.height (hot_of c.args.hotspot)) _ c.put_array.new.out =
+    puts-four _ _ (side_put _ _ _ (search rules) c.put_define.ensures) (side_put _ _ _ (search rules) c.put_define-2.ensures) _ c.put_spot.ensures _ c.put_array.ensures in
+    puts-end p (search rules)

@@ -1,10 +1,11 @@
 -- What the search leaves of `put_spot`.
 use Rattle.std.proofs.Common.{rules}
-use Rattle.header_text.proofs.Laws.{head_laws}
+use Rattle.header_text.proofs.Laws.{spot-put}
+use Rattle.print.proofs.Steps.{puts-none}
 use Rattle.header_text.proofs.put_spot.Goals as goal
 
-pub returns-in-Absent : goal.returns-in-Absent
-returns-in-Absent c = search (head_laws, rules)
-
 pub returns-in-At : goal.returns-in-At
-returns-in-At c = search (head_laws, rules)
+returns-in-At c = rw c.in-At.is (spot-put _ _ _ (search rules) (search rules) c.put_define.ensures c.put_define-in-At.ensures)
+
+pub returns-in_default : goal.returns-in_default
+returns-in_default c = rw c.in_default.is (puts-none _)
