@@ -7,7 +7,7 @@ ghost use Rattle.print.specs.Output.{output, puts};
 ghost use Rattle.print.specs.Puts.{Puts};
 ghost use Rattle.header_text.specs.HeaderText.{define_text, spot_text, array_text, head_text};
 
-use header::Hotspot;
+use header::XbmHeaderData;
 use itoa::Integer;
 use print::Buffer;
 
@@ -24,10 +24,10 @@ fn put_define<I: Integer>(out: &mut Buffer<'_>, name: &[u8], ending: &[u8], n: I
 }
 
 // The lines of a hotspot, if there is one.
-fn put_spot(out: &mut Buffer<'_>, name: &[u8], hotspot: Hotspot)
+fn put_spot(out: &mut Buffer<'_>, name: &[u8], hotspot: Option<(i32, i32)>)
     ensures { Puts (spot_text name.now (hot_of hotspot)) out.old out.new }
 {
-    if let Hotspot::At(x, y) = hotspot {
+    if let Some((x, y)) = hotspot {
         put_define(out, name, b"_x_hot", x);
         put_define(out, name, b"_y_hot", y);
     }
@@ -43,13 +43,13 @@ fn put_array(out: &mut Buffer<'_>, name: &[u8])
 }
 
 // All up to the brace, from the buffer's start.
-pub fn put_header(out: &mut [u8], name: &[u8], width: u32, height: u32, hotspot: Hotspot) -> usize
-    ensures { output out.new result ≡ puts (head_text name.now width height (hot_of hotspot)) (output out.old 0) }
+pub fn put_header(out: &mut [u8], name: &[u8], header: XbmHeaderData) -> usize
+    ensures { output out.new result ≡ puts (head_text name.now header.width header.height (hot_of header.hotspot)) (output out.old 0) }
 {
     let mut out = Buffer { bytes: out, at: 0 };
-    put_define(&mut out, name, b"_width", width);
-    put_define(&mut out, name, b"_height", height);
-    put_spot(&mut out, name, hotspot);
+    put_define(&mut out, name, b"_width", header.width);
+    put_define(&mut out, name, b"_height", header.height);
+    put_spot(&mut out, name, header.hotspot);
     put_array(&mut out, name);
     out.at
 }

@@ -26,8 +26,15 @@ use Rattle.header_text.specs.HeaderText.{head_text}
 use Rattle.header_text.proofs.Size.{head-short}
 use Rattle.writer.specs.Written.{whole_text, written}
 use Rattle.writer.proofs.Size.{written-length, name-short}
-use Rattle.writer.specs.Writing.{breaks, unbroken, name_limit, good_name, wrong, Writing, stored, writing, told_writing}
-use Rattle.writer.specs.declared.XbmWritten.TheVariants.{Text, Refused}
+use Rattle.writer.specs.Writing.{breaks, unbroken, name_limit, good_name, wrong, Writing, stored, writing, error_of, number_of, told_writing}
+use Rattle.mask.specs.declared.MaskError.{MaskError}
+use Rattle.mask.specs.declared.MaskError.TheVariants.{ZeroSide as NoSide, CellCount as OtherCount, CellValue as NoCell}
+use Rattle.mask.specs.Fault.{error_number}
+use Rattle.writer.specs.declared.XbmEncodeError.{XbmEncodeError}
+use Rattle.writer.specs.declared.XbmEncodeError.TheVariants.{BadName, ZeroSide, CellCount, CellValue, ShortOutput}
+use Rattle.std.specs.Prelude.{[], ◌∷◌, ◌&&◌, Result as Answer, Ok, Err}
+use Rattle.std.specs.List.{list_all}
+use Rattle.text.specs.Outcome.{unplaced}
 
 -- ---- names
 
@@ -40,40 +47,37 @@ breaks-is b = go (eqb b 32)
     go true = refl
     go false = refl
 
-pub record Naming (name : List ℕ) (i : ℕ) : Type 0 where
-  pub left : unbroken (drop i name) ≡ unbroken name
+unbroken-is : (name : List ℕ) → list_all (λ b. not (is_loose b)) name ≡ unbroken name
+unbroken-is [] = refl
+unbroken-is (b ∷ w) = rw (unbroken-is w, breaks-is b) (go (breaks b))
+  where
+    go : (t : Bool) → not t && unbroken w ≡ pick t false (unbroken w)
+    go true = refl
+    go false = refl
 
-pub naming-none : (name : List ℕ) → Naming name 0
-naming-none name = record { left = refl }
+module _ (name : List ℕ) where
+  pub good-long : name_limit < length name → false ≡ good_name name
+  good-long h = rw (lt-leb (length name) name_limit h)
 
-module _ (name : List ℕ) (i : ℕ) (c : Naming name i) where
-  name-step : i < length name → pick (is_loose (get_or name i 0)) false (unbroken (drop (i + 1) name)) ≡ unbroken name
-  name-step h = rw (breaks-is (get_or name i 0), add-one i) (rw (drop-cons name i 0 h) at c.left)
+  pub good-short : {t : Bool} → length name ≤ name_limit → t ≡ list_all (λ b. not (is_loose b)) name → t ≡ good_name name
+  good-short {t} h e = rw (le-leb (length name) name_limit h) (e ∙ unbroken-is name)
 
-  pub naming-more : {t : Bool} → i < length name → t ≡ is_loose (get_or name i 0) → t ≡ false → Naming name (i + 1)
-  naming-more {t} h e k = record { left = rw (← e, k) at (name-step h) }
+  module _ (w h : ℕ) (cells : List ℕ) {t : Bool} where
+    pub wrong_name : t ≡ good_name name → not t ≡ true → 51 ≡ wrong name w h cells
+    unfolding wrong
+    wrong_name e k = rw (← e, not-true t k)
 
-  pub naming-wrong : {t : Bool} → i < length name → t ≡ is_loose (get_or name i 0) → t ≡ true → false ≡ unbroken name
-  naming-wrong {t} h e k = rw (← e, k) at (name-step h)
+    pub wrong-mask : {r : ℕ} → t ≡ good_name name → not t ≡ false → r ≡ fault w h cells → r ≡ wrong name w h cells
+    unfolding wrong
+    wrong-mask e k f = rw (← e, not-false t k) f
 
-  pub naming-done : length name ≤ i → true ≡ unbroken name
-  naming-done h = rw (drop_of_length-le name h) at c.left
+pub ruleset name_laws = (good-long, good-short, wrong_name, wrong-mask)
 
-pub good-long : (name : List ℕ) → name_limit < length name → false ≡ good_name name
-good-long name h = rw (lt-leb (length name) name_limit h)
-
-pub good-short : (name : List ℕ) {t : Bool} → length name ≤ name_limit → t ≡ unbroken name → t ≡ good_name name
-good-short name {t} h e = rw (le-leb (length name) name_limit h) e
-
-pub wrong_name : (name : List ℕ) (w h : ℕ) (cells : List ℕ) {t : Bool} → t ≡ good_name name → not t ≡ true → 51 ≡ wrong name w h cells
-unfolding wrong
-wrong_name name w h cells {t} e k = rw (← e, not-true t k)
-
-pub wrong-mask : (name : List ℕ) (w h : ℕ) (cells : List ℕ) {t : Bool} {r : ℕ} → t ≡ good_name name → not t ≡ false → r ≡ fault w h cells → r ≡ wrong name w h cells
-unfolding wrong
-wrong-mask name w h cells {t} e k f = rw (← e, not-false t k) f
-
-pub ruleset name_laws = (naming-none, naming-more, naming-wrong, naming-done, good-long, good-short, wrong_name, wrong-mask)
+-- the number of a mask's error is the one that the mask's own rule has
+pub mask-number : (e : MaskError) → number_of (error_of e) ≡ error_number e
+mask-number NoSide = refl
+mask-number OtherCount = refl
+mask-number NoCell = refl
 
 -- ---- a mask with which nothing is wrong
 
@@ -114,10 +118,10 @@ module _ (name : List ℕ) (w h : ℕ) (cells : List ℕ) (k : wrong name w h ce
     whole_length = omega (arith, e, size_is, written-length name w h hot cells)
 
     module _ (out : List ℕ) where
-      pub stored_short : length out < n + m + 3 → told_writing (Refused 55) out ≡ stored (written name w h hot cells) out
+      pub stored_short : length out < n + m + 3 → told_writing (Err ShortOutput) out ≡ stored (written name w h hot cells) out
       stored_short l = rw (lt-leb (length (written name w h hot cells)) (length out) (omega (arith, whole_length)))
 
-      pub stored-long : {out' : List ℕ} {r : ℕ} → n + m + 3 ≤ length out → output out' r ≡ puts (whole_text (take n s') (packed w h cells)) (output out 0) → told_writing (Text r) out' ≡ stored (written name w h hot cells) out
+      pub stored-long : {out' : List ℕ} {r : ℕ} → n + m + 3 ≤ length out → output out' r ≡ puts (whole_text (take n s') (packed w h cells)) (output out 0) → told_writing (Ok r) out' ≡ stored (written name w h hot cells) out
       unfolding written
       stored-long {out'} {r} l g =
           let t : whole_text (take n s') (packed w h cells) ≡ written name w h hot cells = rw part-is in
@@ -129,16 +133,20 @@ pub ruleset sound_laws = (head-within, head-part, data-fits, end_fits, stored_sh
 
 -- ---- the call
 
-module _ (name : List ℕ) (w h : ℕ) (hot : Option (ℤ × ℤ)) (cells out : List ℕ) {c : ℕ} (e : c ≡ wrong name w h cells) where
-  pub writing-wrong : (c ≡ 0 → ⊥) → told_writing (Refused c) out ≡ writing name w h hot cells out
+module _ (name : List ℕ) (w h : ℕ) (hot : Option (ℤ × ℤ)) (cells out : List ℕ) where
+  pub writing-wrong : {e : XbmEncodeError} {r : Answer ℕ XbmEncodeError} → number_of e ≡ wrong name w h cells → r ≡ Err e → told_writing r out ≡ writing name w h hot cells out
   unfolding writing
-  writing-wrong n = rw (← e, ne_eqb c 0 n)
+  writing-wrong {e} k n = rw (n, ← k) (go e)
+    where
+      go : (x : XbmEncodeError) → told_writing (Err x) out ≡ pick (eqb (number_of x) 0) (stored (written name w h hot cells) out) (record { answer = unplaced (number_of x); bytes = out })
+      go BadName = refl
+      go ZeroSide = refl
+      go CellCount = refl
+      go CellValue = refl
+      go ShortOutput = refl
 
-  pub writing-sound : {z : Writing} → c ≡ 0 → z ≡ stored (written name w h hot cells) out → z ≡ writing name w h hot cells out
+  pub writing-sound : {z : Writing} → 0 ≡ wrong name w h cells → z ≡ stored (written name w h hot cells) out → z ≡ writing name w h hot cells out
   unfolding writing
-  writing-sound i k = rw (← e, eq-eqb c 0 i) k
+  writing-sound i k = rw (← i) k
 
-  pub nothing-wrong : c ≡ 0 → wrong name w h cells ≡ 0
-  nothing-wrong z = sym e ∙ z
-
-pub ruleset writing_laws = (writing-wrong, writing-sound, nothing-wrong)
+pub ruleset writing_laws = (writing-wrong, writing-sound)

@@ -1,13 +1,15 @@
 -- Writing a mask into a lent buffer: what is answered, and what the buffer holds later.
-use Rattle.std.specs.Prelude.{ℕ, Bool, true, false, List, [], ◌∷◌, length, eqb, leb, ℤ}
+use Rattle.std.specs.Prelude.{ℕ, Bool, true, false, List, [], ◌∷◌, length, eqb, leb, ℤ, Result as Answer, Ok, Err}
 use Rattle.std.proofs.Math.Option.{Option}
 use Rattle.text.specs.Place.{pick}
 use Rattle.text.specs.Outcome.{Outcome, accepted, unplaced}
 use Rattle.lexical.specs.Token.{overlay}
 use Rattle.mask.specs.Fault.{fault}
 use Rattle.writer.specs.Written.{written}
-use Rattle.writer.specs.declared.XbmWritten.{XbmWritten}
-use Rattle.writer.specs.declared.XbmWritten.TheVariants.{Text, Refused}
+use Rattle.mask.specs.declared.MaskError.{MaskError}
+use Rattle.mask.specs.declared.MaskError.TheVariants.{ZeroSide as NoSide, CellCount as OtherCount, CellValue as NoCell}
+use Rattle.writer.specs.declared.XbmEncodeError.{XbmEncodeError}
+use Rattle.writer.specs.declared.XbmEncodeError.TheVariants.{BadName, ZeroSide, CellCount, CellValue, ShortOutput}
 
 -- a space, a tab or a newline
 abbrev pub breaks : ℕ → Bool
@@ -50,10 +52,28 @@ writing name w h hot cells out = pick (eqb (wrong name w h cells) 0) (stored (wr
 
 -- ---- what the code answers
 
-abbrev pub told_written : XbmWritten → Outcome ℕ
-told_written (Text n) = accepted n
-told_written (Refused c) = unplaced c
+abbrev pub error_of : MaskError → XbmEncodeError
+error_of NoSide = ZeroSide
+error_of OtherCount = CellCount
+error_of NoCell = CellValue
+
+-- the number of an error, by document 02
+abbrev pub number_of : XbmEncodeError → ℕ
+number_of BadName = 51
+number_of ZeroSide = 52
+number_of CellCount = 53
+number_of CellValue = 54
+number_of ShortOutput = 55
+
+-- what is found wrong; 0 where nothing is
+abbrev pub told_check : Answer (Unit {0}) XbmEncodeError → ℕ
+told_check (Ok u) = 0
+told_check (Err e) = number_of e
+
+abbrev pub told_written : Answer ℕ XbmEncodeError → Outcome ℕ
+told_written (Ok n) = accepted n
+told_written (Err e) = unplaced (number_of e)
 
 -- an answer of the code and the buffer after it, as a writing
-abbrev pub told_writing : XbmWritten → List ℕ → Writing
+abbrev pub told_writing : Answer ℕ XbmEncodeError → List ℕ → Writing
 told_writing r out = record { answer = told_written r; bytes = out }

@@ -1,19 +1,21 @@
 // Writes a mask as XBM text into a lent buffer.
 #![tactic(auto)]
 
-ghost use Rattle.std.specs.Prelude.{◌≡◌};
+ghost use Rattle.std.specs.Prelude.{◌≡◌, not};
+ghost use Rattle.std.specs.List.{list_all};
 ghost use Rattle.header.specs.Answer.{hot_of};
+ghost use Rattle.lexical.specs.Lexical.{is_loose};
 ghost use Rattle.print.specs.Output.{output, puts};
 ghost use Rattle.data_text.specs.Packed.{packed};
 ghost use Rattle.writer.specs.Written.{whole_text, written};
-ghost use Rattle.writer.specs.Writing.{unbroken, good_name, wrong, stored, writing, told_writing};
+ghost use Rattle.writer.specs.Writing.{good_name, wrong, stored, writing, error_of, number_of, told_check, told_writing};
 
 use data_text::{data_length, put_data};
-use header::Hotspot;
+use header::XbmHeaderData;
 use header_text::put_header;
 use lexical::is_loose;
-use mask::mask_fault;
-use print::put_bytes;
+use mask::{MaskError, check_mask};
+use print::Buffer;
 
 // The longest name that can be written: with `_width` it is a symbol of 256 bytes.
 pub const NAME_LIMIT: usize = 250;
@@ -21,73 +23,87 @@ pub const NAME_LIMIT: usize = 250;
 // Room for the header of every such name.
 const HEADER_SIZE: usize = 1536;
 
-// The text's length, or the number of the refusal.
-#[derive(Clone, Copy)]
-pub enum XbmWritten {
-    Text(usize),
-    Refused(u32),
+// Why a mask is not written, by its number.
+#[derive(Clone, Copy, Debug, PartialEq, Eq)]
+pub enum XbmEncodeError {
+    BadName = 51,
+    ZeroSide = 52,
+    CellCount = 53,
+    CellValue = 54,
+    ShortOutput = 55,
+}
+
+impl From<MaskError> for XbmEncodeError {
+    ghost from_gives = { λ e r. r ≡ error_of e };
+
+    fn from(e: MaskError) -> XbmEncodeError {
+        match e {
+            MaskError::ZeroSide => XbmEncodeError::ZeroSide,
+            MaskError::CellCount => XbmEncodeError::CellCount,
+            MaskError::CellValue => XbmEncodeError::CellValue,
+        }
+    }
+}
+
+impl From<XbmEncodeError> for u32 {
+    ghost from_gives = { λ e r. r ≡ number_of e };
+
+    fn from(e: XbmEncodeError) -> u32 {
+        e as u32
+    }
 }
 
 // No byte is a blank or a newline.
 fn is_unbroken(name: &[u8]) -> bool
-    ensures { result ≡ unbroken name.now }
+    ensures { result ≡ list_all (λ b. not (is_loose b)) name.now }
 {
-    let mut i = 0;
-    while i < name.len() {
-        if is_loose(name[i]) {
-            return false;
-        }
-        i += 1;
-    }
-    true
+    name.iter().all(|b| !is_loose(*b))
 }
 
 fn is_good_name(name: &[u8]) -> bool
     ensures { result ≡ good_name name.now }
 {
-    if name.len() > NAME_LIMIT {
-        return false;
-    }
-    is_unbroken(name)
+    name.len() <= NAME_LIMIT && is_unbroken(name)
 }
 
-// What is wrong with the name or the mask; 0 where nothing is.
-fn what_is_wrong(name: &[u8], width: u32, height: u32, cells: &[u8]) -> u32
-    ensures { result ≡ wrong name.now width height cells.now }
+// What is wrong with the name or the mask.
+fn check(name: &[u8], width: u32, height: u32, cells: &[u8]) -> Result<(), XbmEncodeError>
+    ensures { told_check result ≡ wrong name.now width height cells.now }
 {
     if !is_good_name(name) {
-        return 51;
+        return Err(XbmEncodeError::BadName);
     }
-    mask_fault(width, height, cells)
+    check_mask(width, height, cells)?;
+    Ok(())
 }
 
 // The whole text: a header, the data bytes, and the end.
 fn put_text(out: &mut [u8], header: &[u8], width: u32, height: u32, cells: &[u8]) -> usize
     ensures { output out.new result ≡ puts (whole_text header.now (packed width height cells.now)) (output out.old 0) }
 {
-    let a = put_bytes(out, 0, header);
-    let b = put_data(out, a, width, height, cells);
-    put_bytes(out, b, b"};\n")
+    let mut out = Buffer { bytes: out, at: 0 };
+    out.put_bytes(header);
+    put_data(&mut out, width, height, cells);
+    out.put_bytes(b"};\n");
+    out.at
 }
 
 // Writes a mask with which nothing is wrong. Its length is known before the first byte is put.
 fn write_sound(
     name: &[u8],
-    width: u32,
-    height: u32,
-    hotspot: Hotspot,
+    header: XbmHeaderData,
     cells: &[u8],
     out: &mut [u8],
-) -> XbmWritten
-    requires { wrong name.now width height cells.now ≡ 0 }
-    ensures { told_writing result out.new ≡ stored (written name.now width height (hot_of hotspot) cells.now) out.old }
+) -> Result<usize, XbmEncodeError>
+    requires { wrong name.now header.width header.height cells.now ≡ 0 }
+    ensures { told_writing result out.new ≡ stored (written name.now header.width header.height (hot_of header.hotspot) cells.now) out.old }
 {
-    let mut header = [0u8; HEADER_SIZE];
-    let size = put_header(&mut header, name, width, height, hotspot);
-    if size + data_length(width, height) + 3 > out.len() {
-        return XbmWritten::Refused(55);
+    let mut text = [0u8; HEADER_SIZE];
+    let size = put_header(&mut text, name, header);
+    if size + data_length(header.width, header.height) + 3 > out.len() {
+        return Err(XbmEncodeError::ShortOutput);
     }
-    XbmWritten::Text(put_text(out, &header[..size], width, height, cells))
+    Ok(put_text(out, &text[..size], header.width, header.height, cells))
 }
 
 // Writes a mask as a text to the start of `out`; the answer is its length. Checked in this order, with `out` untouched:
@@ -95,17 +111,12 @@ fn write_sound(
 // 54 a cell is neither 0 nor 255, 55 `out` is too short.
 pub fn write_xbm(
     name: &[u8],
-    width: u32,
-    height: u32,
-    hotspot: Hotspot,
+    header: XbmHeaderData,
     cells: &[u8],
     out: &mut [u8],
-) -> XbmWritten
-    ensures { told_writing result out.new ≡ writing name.now width height (hot_of hotspot) cells.now out.old }
+) -> Result<usize, XbmEncodeError>
+    ensures { told_writing result out.new ≡ writing name.now header.width header.height (hot_of header.hotspot) cells.now out.old }
 {
-    let c = what_is_wrong(name, width, height, cells);
-    if c != 0 {
-        return XbmWritten::Refused(c);
-    }
-    write_sound(name, width, height, hotspot, cells, out)
+    check(name, header.width, header.height, cells)?;
+    write_sound(name, header, cells, out)
 }

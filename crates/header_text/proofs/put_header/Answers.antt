@@ -10,6 +10,6 @@ use Rattle.header_text.proofs.put_header.Goals as goal
 pub returns : goal.returns
 unfolding head_text
 returns c =
-    let p : Puts (head_text c.args.name.now c.args.width c.args.height (hot_of c.args.hotspot)) _ c.put_array.new.out =
+    let p : Puts (head_text c.args.name.now c.args.header.width c.args.header.height (hot_of c.args.header.hotspot)) _ c.put_array.new.out =
     puts-four _ _ (side_put _ _ _ (search rules) c.put_define.ensures) (side_put _ _ _ (search rules) c.put_define-2.ensures) _ c.put_spot.ensures _ c.put_array.ensures in
     puts-end p (search rules)

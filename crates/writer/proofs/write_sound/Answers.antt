@@ -12,8 +12,8 @@ overflow_add-size-2 c = search (sound_laws, rules)
 pub returns-then-size-data_length : goal.returns-then-size-data_length
 returns-then-size-data_length c = search (sound_laws, rules)
 
-pub slice_bounds-header-end : goal.slice_bounds-header-end
-slice_bounds-header-end c = search (sound_laws, rules)
+pub slice_bounds-text-end : goal.slice_bounds-text-end
+slice_bounds-text-end c = search (sound_laws, rules)
 
 pub slice_bounds-put_text-end : goal.slice_bounds-put_text-end
 slice_bounds-put_text-end c = search (sound_laws, rules)
