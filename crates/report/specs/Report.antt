@@ -1,5 +1,5 @@
 -- What is told of a header or a picture, as include/xbm.h lists it: a result number, a report of ten numbers, a hotspot of two.
-use Rattle.std.specs.Prelude.{ℕ, List, [], ◌∷◌, ℤ, pos, eqb, Option as Given, Some, None, Result as Answer, Ok, Err}
+use Rattle.std.specs.Prelude.{ℕ, List, [], ◌∷◌, ℤ, pos, eqb, Option as Spot, Some, None, Result as Answer, Ok, Err}
 use Rattle.std.proofs.Math.Option.{Option, none, some}
 use Rattle.text.specs.declared.TextLocation.{TextLocation}
 use Rattle.text.specs.Place.{pick, nowhere}
@@ -9,7 +9,7 @@ use Rattle.header.specs.declared.XbmHeaderData.{XbmHeaderData}
 use Rattle.header.specs.Header.{Head}
 use Rattle.report.specs.declared.Summary.{Summary}
 
-abbrev pub spot_of : Option (ℤ × ℤ) → Given (ℤ × ℤ)
+abbrev pub spot_of : Option (ℤ × ℤ) → Spot (ℤ × ℤ)
 spot_of none = None
 spot_of (some s) = Some s
 
@@ -22,7 +22,7 @@ abbrev pub refusal : ℕ → TextLocation → ℕ → Summary
 refusal c p n = record { number = c; place = p; width = 0; height = 0; name = n; hotspot = None }
 
 -- the place that is told, if one is
-abbrev pub place_told : Given TextLocation → TextLocation
+abbrev pub place_told : Spot TextLocation → TextLocation
 place_told (Some p) = p
 place_told None = nowhere
 
@@ -32,7 +32,7 @@ of_refusal r n = refusal r.number (place_told r.place) n
 
 -- what is told of a header as the code has it, and the place that is told with it
 abbrev pub of_answer : Answer (XbmHeaderData × TextLocation) Refusal → ℕ → Summary
-of_answer (Ok (d, p)) n = record { number = 0; place = p; width = d.width; height = d.height; name = n; hotspot = d.hotspot }
+of_answer (Ok r) n = record { number = 0; place = r.1; width = r.0.width; height = r.0.height; name = n; hotspot = r.0.hotspot }
 of_answer (Err r) n = of_refusal r n
 
 -- what is told of a header; an accepted one tells the place after its brace
@@ -50,12 +50,12 @@ of_image (unplaced c) n = refusal c nowhere n
 -- ---- as numbers
 
 -- 1 if there is a hotspot
-abbrev pub flag_of : Given (ℤ × ℤ) → ℕ
+abbrev pub flag_of : Spot (ℤ × ℤ) → ℕ
 flag_of None = 0
 flag_of (Some s) = 1
 
 -- x and y, or 0 and 0
-abbrev pub coordinates : Given (ℤ × ℤ) → List ℤ
+abbrev pub coordinates : Spot (ℤ × ℤ) → List ℤ
 coordinates None = pos 0 ∷ pos 0 ∷ []
 coordinates (Some (x, y)) = x ∷ y ∷ []
 
