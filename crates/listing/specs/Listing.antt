@@ -56,11 +56,11 @@ listing text name cells = listed_text (listed text name cells)
 
 -- what is told of an answer: the name is not printed, so any name will do
 abbrev pub told_list : List ℕ → Result (XbmHeaderData × ℕ) Refusal → Outcome Head
-told_list name (Ok (d, k)) = accepted (head_of name d)
+told_list name (Ok r) = accepted (head_of name r.0)
 told_list name (Err e) = told_refusal e
 
 abbrev pub ink_told : Result (XbmHeaderData × ℕ) Refusal → ℕ
-ink_told (Ok (d, k)) = k
+ink_told (Ok r) = r.1
 ink_told (Err e) = 0
 
 -- the printed text of an answer
