@@ -92,7 +92,7 @@ impl From<LimitedError> for Refusal {
     }
 }
 
-// The picture read, or why it is not; and the length of the name that stands at the name buffer's start: 0 if the header is refused.
+// The picture read, or why it is not; and the name's length, 0 if the header is refused: its bytes stand at the start of the lent buffer, which no answer borrows.
 #[derive(Clone, Copy, Debug, PartialEq, Eq)]
 pub struct ImageAnswer<E> {
     pub image: Result<XbmHeaderData, E>,

@@ -7,7 +7,7 @@ ghost use Rattle.report.specs.Report.{flag_of, coordinates, hot_given, report_of
 
 use text::TextLocation;
 
-// What a call tells: zeros and no hotspot where it tells nothing; `name` is the name's length.
+// What a call of the C interface tells, its number 0 if it accepts: zeros and no hotspot where it tells nothing; `name` is the name's length.
 #[derive(Clone, Copy, Debug, PartialEq, Eq)]
 pub struct Summary {
     pub number: u32,
@@ -32,7 +32,7 @@ pub fn write_hotspot(hotspot: Option<(i32, i32)>, out: &mut [i32; 2])
     *out = [x, y];
 }
 
-// A hotspot given in numbers: none exactly if the flag is 0.
+// A hotspot given in numbers, as the C interface has it: none exactly if the flag is 0.
 pub fn hotspot_given(has: u32, x: i32, y: i32) -> Option<(i32, i32)>
     ensures { hot_of result ≡ hot_given has x y }
 {
