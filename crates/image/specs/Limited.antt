@@ -1,13 +1,13 @@
 -- The reading of pixels within limits on the text's bytes and on the cells: the first limit, the header, the second,
 -- then the picture, into the first width times height cells lent.
-use Rattle.std.specs.Prelude.{◌≡◌, ℕ, ◌*◌, ◌≤◌, ◌<◌, true, List, [], ◌++◌, length, take, drop, ltb}
+use Rattle.std.specs.Prelude.{◌≡◌, ℕ, ◌*◌, ◌≤◌, ◌<◌, true, List, [], ◌++◌, length, take, drop, ltb, None, Result as Answer, Ok, Err}
 use Rattle.text.specs.declared.TextLocation.{TextLocation}
 use Rattle.text.specs.Place.{pick, start}
 use Rattle.text.specs.Reader.{Result, ok, stop, bad}
 use Rattle.text.specs.Outcome.{Outcome, accepted, refused, unplaced, outcome}
 use Rattle.lexical.specs.Token.{overlay}
-use Rattle.error.specs.Error.{refusal_of, told_refusal}
-use Rattle.error.specs.declared.Refusal.TheVariants.{Unplaced}
+use Rattle.error.specs.declared.Refusal.{Refusal}
+use Rattle.error.specs.Error.{told_refusal}
 use Rattle.symbol.specs.Symbol.{stored}
 use Rattle.header.specs.declared.XbmHeaderData.{XbmHeaderData}
 use Rattle.header.specs.Header.{Head, header}
@@ -15,12 +15,11 @@ use Rattle.header.specs.Answer.{head_of}
 use Rattle.body.specs.Data.{log_of}
 use Rattle.cells.specs.Cells.{painted, count}
 use Rattle.rows.specs.Rows.{whole}
-use Rattle.image.specs.Reading.{Reading, reading}
-use Rattle.image.specs.declared.ImageRead.{ImageRead}
-use Rattle.image.specs.declared.ImageRead.TheVariants.{Read as ImageIs, Refused as ImageRefused, DimensionMismatch}
-use Rattle.image.specs.declared.LimitedRead.{LimitedRead}
-use Rattle.image.specs.declared.LimitedRead.TheVariants.{Read, Refused}
-use Rattle.image.specs.declared.LimitedAnswer.{LimitedAnswer}
+use Rattle.image.specs.Reading.{Reading, reading, image_refusal}
+use Rattle.image.specs.declared.ImageError.{ImageError}
+use Rattle.image.specs.declared.ImageAnswer.{ImageAnswer}
+use Rattle.image.specs.declared.LimitedError.{LimitedError}
+use Rattle.image.specs.declared.LimitedError.TheVariants.{TextTooLong, PictureTooLarge, Image}
 
 -- the cells of a picture
 abbrev pub cells_of : Head → ℕ
@@ -55,32 +54,36 @@ within bytes most text name cells =
 
 -- ---- what the code answers
 
-abbrev pub told_limited : List ℕ → LimitedRead → Outcome Head
-told_limited name (Read d) = accepted (head_of name d)
-told_limited name (Refused e) = told_refusal e
+abbrev pub limited_refusal : LimitedError → Refusal
+limited_refusal TextTooLong = record { number = 41; place = None }
+limited_refusal PictureTooLarge = record { number = 42; place = None }
+limited_refusal (Image e) = image_refusal e
 
-abbrev pub limited_reading : LimitedAnswer → List ℕ → List ℕ → Reading
+abbrev pub told_limited : List ℕ → Answer XbmHeaderData LimitedError → Outcome Head
+told_limited name (Ok d) = accepted (head_of name d)
+told_limited name (Err e) = told_refusal (limited_refusal e)
+
+abbrev pub limited_reading : ImageAnswer LimitedError → List ℕ → List ℕ → Reading
 limited_reading r name cells = record { answer = told_limited (take r.name name) r.image; name = take r.name name; symbol = name; pixels = cells }
 
 -- reading within a limit: what it answers and leaves, and the name is a part of the name buffer
-pub record Limited (limit : ℕ) (text name cells name' cells' : List ℕ) (r : LimitedAnswer) : Type 0 where
+pub record Limited (limit : ℕ) (text name cells name' cells' : List ℕ) (r : ImageAnswer LimitedError) : Type 0 where
   pub all : limited_reading r name' cells' ≡ limited limit text name cells
   pub fits : r.name ≤ length name'
 
 -- the same within both limits
-pub record Within (bytes most : ℕ) (text name cells name' cells' : List ℕ) (r : LimitedAnswer) : Type 0 where
+pub record Within (bytes most : ℕ) (text name cells name' cells' : List ℕ) (r : ImageAnswer LimitedError) : Type 0 where
   pub all : limited_reading r name' cells' ≡ within bytes most text name cells
   pub fits : r.name ≤ length name'
 
 -- a picture's answer, as one within a limit
-abbrev pub limited_of : ImageRead → LimitedRead
-limited_of (ImageIs d) = Read d
-limited_of (ImageRefused e) = Refused (refusal_of e)
-limited_of DimensionMismatch = Refused (Unplaced 31)
+abbrev pub limited_of : Answer XbmHeaderData ImageError → Answer XbmHeaderData LimitedError
+limited_of (Ok d) = Ok d
+limited_of (Err e) = Err (Image e)
 
 -- reading what follows an accepted header d, from place p on: nothing above the limit, else the picture into the first n cells
-pub record Bounded (limit : ℕ) (d : XbmHeaderData) (t : List ℕ) (p : TextLocation) (lent later : List ℕ) (r : LimitedRead) : Type 0 where
-  pub large : limit < d.width * d.height → (r ≡ Refused (Unplaced 42)) × (later ≡ lent)
+pub record Bounded (limit : ℕ) (d : XbmHeaderData) (t : List ℕ) (p : TextLocation) (lent later : List ℕ) (r : Answer XbmHeaderData LimitedError) : Type 0 where
+  pub large : limit < d.width * d.height → (r ≡ Err PictureTooLarge) × (later ≡ lent)
   pub answer : d.width * d.height ≤ limit → (name : List ℕ)
       → told_limited name r ≡ outcome (λ (l : List ℕ). head_of name d) (whole d.width d.height (length (take (d.width * d.height) lent)) t p)
   pub stored : d.width * d.height ≤ limit

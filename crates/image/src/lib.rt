@@ -2,40 +2,100 @@
 #![tactic(auto)]
 
 ghost use Rattle.std.specs.Prelude.{◌≡◌};
-ghost use Rattle.image.specs.Limited.{limited_of, Bounded, Limited, Within};
-ghost use Rattle.image.specs.Reading.{Pictured, Imaged};
+ghost use Rattle.image.specs.Limited.{limited_refusal, Bounded, Limited, Within};
+ghost use Rattle.image.specs.Reading.{rows_error, image_refusal, Pictured, Imaged};
+ghost use Rattle.image.specs.declared.ImageError.TheVariants.{Decode};
+ghost use Rattle.image.specs.declared.LimitedError.TheVariants.{Image};
 
-use error::{Refusal, XbmDecodeError, refusal_of};
-use header::{HeaderRead, XbmHeaderData, read_xbm_header};
+use error::{Refusal, XbmDecodeError};
+use header::{XbmHeaderData, read_xbm_header};
 use ink::{at_most, cell_count};
-use rows::{Rows, read_rows};
+use rows::{RowsError, read_rows};
 use text::TextLocation;
 
-// The picture read; a refusal; or a pixel buffer whose rows are not the picture's.
-#[derive(Clone, Copy)]
-pub enum ImageRead {
-    Read(XbmHeaderData),
-    Refused(XbmDecodeError),
+// A refusal of the decoder, or a pixel buffer whose rows are not the picture's.
+#[derive(Clone, Copy, Debug, PartialEq, Eq)]
+pub enum ImageError {
+    Decode(XbmDecodeError),
     DimensionMismatch,
 }
 
-// The same, with the length of the name that stands at the name buffer's start: 0 if the header is refused.
-#[derive(Clone, Copy)]
-pub struct ImageAnswer {
-    pub image: ImageRead,
-    pub name: usize,
+impl From<XbmDecodeError> for ImageError {
+    ghost from_gives = { λ e r. r ≡ Decode e };
+
+    fn from(e: XbmDecodeError) -> ImageError {
+        ImageError::Decode(e)
+    }
 }
 
-// The same within limits, a refusal by its number.
-#[derive(Clone, Copy)]
-pub enum LimitedRead {
-    Read(XbmHeaderData),
-    Refused(Refusal),
+impl From<RowsError> for ImageError {
+    ghost from_gives = { λ e r. r ≡ rows_error e };
+
+    fn from(e: RowsError) -> ImageError {
+        match e {
+            RowsError::Parse(e) => ImageError::Decode(e.into()),
+            RowsError::DimensionMismatch => ImageError::DimensionMismatch,
+        }
+    }
 }
 
-#[derive(Clone, Copy)]
-pub struct LimitedAnswer {
-    pub image: LimitedRead,
+impl From<ImageError> for Refusal {
+    ghost from_gives = { λ e r. r ≡ image_refusal e };
+
+    fn from(e: ImageError) -> Refusal {
+        match e {
+            ImageError::Decode(e) => e.into(),
+            ImageError::DimensionMismatch => Refusal {
+                number: 31,
+                place: None,
+            },
+        }
+    }
+}
+
+// The most bytes that a text may have, and the most cells that a picture may have.
+#[derive(Clone, Copy, Debug, PartialEq, Eq)]
+pub struct Limits {
+    pub text: usize,
+    pub cells: u64,
+}
+
+// A text above its limit; a picture above its own; or what is wrong within the limits.
+#[derive(Clone, Copy, Debug, PartialEq, Eq)]
+pub enum LimitedError {
+    TextTooLong,
+    PictureTooLarge,
+    Image(ImageError),
+}
+
+impl From<ImageError> for LimitedError {
+    ghost from_gives = { λ e r. r ≡ Image e };
+
+    fn from(e: ImageError) -> LimitedError {
+        LimitedError::Image(e)
+    }
+}
+
+impl From<LimitedError> for Refusal {
+    ghost from_gives = { λ e r. r ≡ limited_refusal e };
+
+    fn from(e: LimitedError) -> Refusal {
+        let number = match e {
+            LimitedError::TextTooLong => 41,
+            LimitedError::PictureTooLarge => 42,
+            LimitedError::Image(e) => return e.into(),
+        };
+        Refusal {
+            number,
+            place: None,
+        }
+    }
+}
+
+// The picture read, or why it is not; and the name's length, 0 if the header is refused: its bytes stand at the start of the lent buffer, which no answer borrows.
+#[derive(Clone, Copy, Debug, PartialEq, Eq)]
+pub struct ImageAnswer<E> {
+    pub image: Result<XbmHeaderData, E>,
     pub name: usize,
 }
 
@@ -45,42 +105,25 @@ fn read_picture(
     place: TextLocation,
     header: XbmHeaderData,
     pixels: &mut [u8],
-) -> ImageRead
+) -> Result<XbmHeaderData, ImageError>
     ensures { Pictured header text.now place pixels.old pixels.new result }
 {
-    match read_rows(text, place, header.width, header.height, pixels) {
-        Rows::Done => ImageRead::Read(header),
-        Rows::Refused(part, p) => ImageRead::Refused(XbmDecodeError::Parse(part, p)),
-        Rows::Mismatch => ImageRead::DimensionMismatch,
-    }
+    read_rows(text, place, header.width, header.height, pixels)?;
+    Ok(header)
 }
 
 // The pixels of a text, its header first: as `XbmDecoder::new` and then `read_image`.
-pub fn read_image(text: &[u8], name: &mut [u8], pixels: &mut [u8]) -> ImageAnswer
+pub fn read_image(text: &[u8], name: &mut [u8], pixels: &mut [u8]) -> ImageAnswer<ImageError>
     ensures { Imaged text.now name.old pixels.old name.new pixels.new result }
 {
     let read = read_xbm_header(text, name);
-    let header = read.header;
-    match header {
-        HeaderRead::Read(d, place) => ImageAnswer {
-            image: read_picture(text, place, d, pixels),
-            name: read.name,
-        },
-        HeaderRead::Refused(e) => ImageAnswer {
-            image: ImageRead::Refused(e),
-            name: read.name,
-        },
-    }
-}
-
-// A picture's answer, its refusal by its number.
-fn limited_of(image: ImageRead) -> LimitedRead
-    ensures { result ≡ limited_of image }
-{
-    match image {
-        ImageRead::Read(d) => LimitedRead::Read(d),
-        ImageRead::Refused(e) => LimitedRead::Refused(refusal_of(e)),
-        ImageRead::DimensionMismatch => LimitedRead::Refused(Refusal::Unplaced(31)),
+    let image = match read.header {
+        Ok((header, place)) => read_picture(text, place, header, pixels),
+        Err(e) => Err(e.into()),
+    };
+    ImageAnswer {
+        image,
+        name: read.name,
     }
 }
 
@@ -91,51 +134,52 @@ fn read_bounded(
     header: XbmHeaderData,
     cells: &mut [u8],
     limit: u64,
-) -> LimitedRead
+) -> Result<XbmHeaderData, LimitedError>
     ensures { Bounded limit header text.now place cells.old cells.new result }
 {
     let n = cell_count(header.width, header.height);
     if n > limit {
-        return LimitedRead::Refused(Refusal::Unplaced(42));
+        return Err(LimitedError::PictureTooLarge);
     }
     let size = at_most(n, cells.len());
-    limited_of(read_picture(text, place, header, &mut cells[..size]))
+    Ok(read_picture(text, place, header, &mut cells[..size])?)
 }
 
 // The pixels of a text, its header first, into the first width times height of the cells lent; above the limit on these only the header is read.
-fn read_limited(text: &[u8], name: &mut [u8], cells: &mut [u8], limit: u64) -> LimitedAnswer
+fn read_limited(
+    text: &[u8],
+    name: &mut [u8],
+    cells: &mut [u8],
+    limit: u64,
+) -> ImageAnswer<LimitedError>
     ensures { Limited limit text.now name.old cells.old name.new cells.new result }
 {
     let read = read_xbm_header(text, name);
-    let header = read.header;
-    match header {
-        HeaderRead::Read(d, place) => LimitedAnswer {
-            image: read_bounded(text, place, d, cells, limit),
-            name: read.name,
-        },
-        HeaderRead::Refused(e) => LimitedAnswer {
-            image: LimitedRead::Refused(refusal_of(e)),
-            name: read.name,
-        },
+    let image = match read.header {
+        Ok((header, place)) => read_bounded(text, place, header, cells, limit),
+        Err(e) => Err(LimitedError::Image(e.into())),
+    };
+    ImageAnswer {
+        image,
+        name: read.name,
     }
 }
 
-// The same, with a limit on the text too: one that is longer is 41, and nothing of it is read.
+// The same, with a limit on the text too: of one that is longer nothing is read.
+#[tactic(auto, unfolding(crate::specs::Limited::within))]
 pub fn read_within(
     text: &[u8],
     name: &mut [u8],
     cells: &mut [u8],
-    text_limit: usize,
-    cell_limit: u64,
-) -> LimitedAnswer
-    ensures { Within text_limit cell_limit text.now name.old cells.old
-        name.new cells.new result }
+    limits: Limits,
+) -> ImageAnswer<LimitedError>
+    ensures { Within limits.text limits.cells text.now name.old cells.old name.new cells.new result }
 {
-    if text.len() > text_limit {
-        return LimitedAnswer {
-            image: LimitedRead::Refused(Refusal::Unplaced(41)),
+    if text.len() > limits.text {
+        return ImageAnswer {
+            image: Err(LimitedError::TextTooLong),
             name: 0,
         };
     }
-    read_limited(text, name, cells, cell_limit)
+    read_limited(text, name, cells, limits.cells)
 }

@@ -1,7 +1,9 @@
 -- What the listing program prints of a text: document 01's program, its limits included.
-use Rattle.std.specs.Prelude.{ℕ, ◌≡◌, List, [], take}
+use Rattle.std.specs.Prelude.{ℕ, ◌≡◌, List, [], take, Result, Ok, Err}
 use Rattle.text.specs.Outcome.{Outcome, accepted, refused, unplaced}
+use Rattle.error.specs.declared.Refusal.{Refusal}
 use Rattle.error.specs.Error.{told_refusal}
+use Rattle.header.specs.declared.XbmHeaderData.{XbmHeaderData}
 use Rattle.header.specs.Header.{Head}
 use Rattle.header.specs.Answer.{head_of}
 use Rattle.ink.specs.Ink.{ink_of}
@@ -9,8 +11,6 @@ use Rattle.image.specs.Reading.{Reading}
 use Rattle.image.specs.Limited.{cells_of, within}
 use Rattle.print.specs.Output.{output, puts}
 use Rattle.printing.specs.Printed.{printed}
-use Rattle.listing.specs.declared.ListAnswer.{ListAnswer}
-use Rattle.listing.specs.declared.ListAnswer.TheVariants.{Accepted, Refused}
 
 -- the program's limits: bytes of a text (41), cells of a picture (42)
 abbrev pub text_limit : ℕ
@@ -55,20 +55,20 @@ listing text name cells = listed_text (listed text name cells)
 -- ---- what the code answers
 
 -- what is told of an answer: the name is not printed, so any name will do
-abbrev pub told_list : List ℕ → ListAnswer → Outcome Head
-told_list name (Accepted d k) = accepted (head_of name d)
-told_list name (Refused e) = told_refusal e
+abbrev pub told_list : List ℕ → Result (XbmHeaderData × ℕ) Refusal → Outcome Head
+told_list name (Ok r) = accepted (head_of name r.0)
+told_list name (Err e) = told_refusal e
 
-abbrev pub ink_told : ListAnswer → ℕ
-ink_told (Accepted d k) = k
-ink_told (Refused e) = 0
+abbrev pub ink_told : Result (XbmHeaderData × ℕ) Refusal → ℕ
+ink_told (Ok r) = r.1
+ink_told (Err e) = 0
 
 -- the printed text of an answer
-abbrev pub answer_text : ListAnswer → List ℕ
+abbrev pub answer_text : Result (XbmHeaderData × ℕ) Refusal → List ℕ
 answer_text r = printed (told_list [] r) (ink_told r)
 
 -- reading a text for the listing: what is printed, and the buffers later
-pub record Answered (bytes most : ℕ) (text name cells name' cells' : List ℕ) (r : ListAnswer) : Type 0 where
+pub record Answered (bytes most : ℕ) (text name cells name' cells' : List ℕ) (r : Result (XbmHeaderData × ℕ) Refusal) : Type 0 where
   pub prints : answer_text r ≡ listed_text (listed_within bytes most text name cells)
   pub named : name' ≡ (listed_within bytes most text name cells).symbol
   pub filled : cells' ≡ (listed_within bytes most text name cells).cells

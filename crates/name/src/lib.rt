@@ -1,7 +1,7 @@
 // The name as a part of the lent name buffer: it carries the buffer's lifetime and not the text's.
 #![tactic(auto)]
 
-ghost use Rattle.std.specs.Prelude.{◌≡◌, min, take, drop};
+ghost use Rattle.std.specs.Prelude.{◌≡◌, take, drop};
 ghost use Rattle.name.specs.Parted.{Stored, Parted};
 
 use header::read_xbm_header;
@@ -17,38 +17,21 @@ pub struct Named<'n> {
 pub fn store_name(text: &[u8], name: &mut [u8]) -> usize
     ensures { Stored text.now name.old name.new result }
 {
-    let read = read_xbm_header(text, name);
-    read.name
-}
-
-// A buffer that is lent to be changed, as one to be read.
-fn as_read<'n>(name: &'n mut [u8]) -> &'n [u8]
-    ensures { result.now ≡ name.old }
-{
-    &name[..]
+    read_xbm_header(text, name).name
 }
 
 // The first n bytes of a buffer, or all where it has fewer.
 pub fn name_of<'n>(name: &'n [u8], n: usize) -> &'n [u8]
     ensures { result.now ≡ take n name.now }
 {
-    let size = within(n, name.len());
-    &name[..size]
+    &name[..n.min(name.len())]
 }
 
 // What follows the first n bytes.
 pub fn rest_of<'n>(name: &'n [u8], n: usize) -> &'n [u8]
     ensures { result.now ≡ drop n name.now }
 {
-    let size = within(n, name.len());
-    &name[size..]
-}
-
-// The lesser of two lengths.
-fn within(n: usize, size: usize) -> usize
-    ensures { result ≡ min n size }
-{
-    if n < size { n } else { size }
+    &name[n.min(name.len())..]
 }
 
 // Reads the header into the buffer, and hands the name out as the buffer's first part; of a refused header it is empty.
@@ -56,8 +39,9 @@ pub fn read_name<'t, 'n>(text: &'t [u8], name: &'n mut [u8]) -> Named<'n>
     ensures { Parted text.now name.old result.name.now result.rest.now }
 {
     let n = store_name(text, name);
-    let whole = as_read(name);
-    let front = name_of(whole, n);
-    let rest = rest_of(whole, n);
-    Named { name: front, rest }
+    let whole: &'n [u8] = name;
+    Named {
+        name: name_of(whole, n),
+        rest: rest_of(whole, n),
+    }
 }

@@ -1,57 +1,34 @@
 -- What a step of the code says of what is printed.
-use mathlib.Core.Path.{◌≡◌, sym, ap, ◌∙◌}
-use Prim.Native.Nat.{ℕ}
+use Rattle.std.specs.Prelude.{◌≡◌, ℕ, ℤ, Some, None}
+use Rattle.std.specs.Fmt as Printed
+use Rattle.std.specs.Int.RustNames.{FitsSigned}
+use Rattle.std.proofs.Math.Option.{some}
 use mir.Syntax.{w32}
-use mir.Val.{SFits, to_z, of_z}
+use mir.Val.{to_z, of_z}
 use mir.ValLaws.{to_z-of_z}
-use mathlib.Core.Option.{none, some}
-use mathlib.Core.List.{List, [], ◌++◌, append-nil}
-use lib.IntN.{ℤ}
 use Rattle.text.specs.Ascii.{ascii}
 use Rattle.text.specs.declared.TextLocation.{TextLocation}
-use Rattle.text.specs.Outcome.{refused, unplaced}
 use Rattle.error.specs.declared.Refusal.{Refusal}
-use Rattle.error.specs.declared.Refusal.TheVariants.{Placed, Unplaced}
 use Rattle.error.specs.Error.{told_refusal}
-use Rattle.header.specs.declared.Hotspot.{Hotspot}
-use Rattle.header.specs.declared.Hotspot.TheVariants.{Absent, At}
-use Rattle.header.specs.Answer.{hot_of}
-use Rattle.print.specs.Output.{Output, puts, joined}
-use Rattle.print.proofs.Output.{puts-append}
 use Rattle.print.specs.Decimal.{signed}
-use Rattle.print.proofs.Laws.{joined_laws}
-use Rattle.printing.specs.Printed.{pair_text, hot_text, printed}
+use Rattle.print.specs.declared.Buffer.{Buffer}
+use Rattle.print.specs.Puts.{Puts}
+use Rattle.print.proofs.Steps.{puts-two, puts-three, puts-signed}
+use Rattle.printing.specs.Printed.{field_text, place_text, hot_text, printed}
 
--- ---- what is put for an answer that is matched on
+-- what a call is given of a number with a sign is read off its bits
+signed-put : {o o' : Buffer} (z : ℤ) → FitsSigned w32 z → Puts (Printed.signed_decimal (to_z w32 (of_z w32 z))) o o' → Puts (signed z) o o'
+signed-put z h p = puts-signed z h (rw (to_z-of_z w32 z h) at p)
 
-module _ (o : Output) {z : Output} where
-  pub hot-absent : {h : Hotspot} → h ≡ Absent → z ≡ puts (hot_text none) o → z ≡ puts (hot_text (hot_of h)) o
-  hot-absent e k = rw e k
+module _ {o o₁ o₂ o₃ : Buffer} where
+  pub pair-put : (x y : ℤ) → FitsSigned w32 x → FitsSigned w32 y → Puts (Printed.signed_decimal (to_z w32 (of_z w32 x))) o o₁ → Puts (ascii " ") o₁ o₂
+      → Puts (Printed.signed_decimal (to_z w32 (of_z w32 y))) o₂ o₃ → Puts (hot_text (some (x, y))) o o₃
+  pair-put x y h k p q r = puts-three _ _ (signed-put x h p) q _ (signed-put y k r)
 
-  pub hot-at : {h : Hotspot} {x y : ℤ} → h ≡ At x y → z ≡ puts (hot_text (some (x, y))) o → z ≡ puts (hot_text (hot_of h)) o
-  hot-at e k = rw e k
+-- a refusal: its number, its place where one is told, the line's end
+module _ {o o₁ o₂ : Buffer} (e : Refusal) {n : ℕ} (f : Puts (field_text (ascii "refused ") n) o o₁) (g : n ≡ e.number) where
+  pub refusal-placed : {o₃ : Buffer} {p : TextLocation} → e.place ≡ Some p → Puts (place_text p) o₁ o₂ → Puts (ascii "\n") o₂ o₃ → Puts (printed (told_refusal e) 0) o o₃
+  refusal-placed h p q = rw (h, ← g) (puts-three _ _ f p _ q)
 
-  pub refusal-placed : {e : Refusal} {c : ℕ} {p : TextLocation} → e ≡ Placed c p → z ≡ puts (printed (refused c p) 0) o → z ≡ puts (printed (told_refusal e) 0) o
-  refusal-placed e k = rw e k
-
-  pub refusal-unplaced : {e : Refusal} {c : ℕ} → e ≡ Unplaced c → z ≡ puts (printed (unplaced c) 0) o → z ≡ puts (printed (told_refusal e) 0) o
-  refusal-unplaced e k = rw e k
-
--- two numbers with a sign; what a call is given of one is read off its bits
-module _ (x y : ℤ) (o : Output) where
-  pair-joined : puts (signed y) (puts (ascii " ") (puts (signed x) o)) ≡ puts (pair_text x y) o
-  unfolding joined
-  pair-joined =
-      sym
-      (puts-append (signed x) (ascii " " ++ (signed y ++ [])) o
-      ∙ puts-append (ascii " ") (signed y ++ []) (puts (signed x) o)
-      ∙ ap (λ (w : List ℕ). puts w (puts (ascii " ") (puts (signed x) o))) (append-nil (signed y)))
-
-  pub pair_put : (o₁ o₂ z : Output) → SFits w32 x → SFits w32 y → o₁ ≡ puts (signed (to_z w32 (of_z w32 x))) o → o₂ ≡ puts (ascii " ") o₁ → z ≡ puts (signed (to_z w32 (of_z w32 y))) o₂
-      → z ≡ puts (pair_text x y) o
-  pair_put o₁ o₂ z hx hy a b c =
-      let d : o₁ ≡ puts (signed x) o = a ∙ ap (λ (n : ℤ). puts (signed n) o) (to_z-of_z w32 x hx) in
-      let e : o₂ ≡ puts (ascii " ") (puts (signed x) o) = b ∙ ap (puts (ascii " ")) d in
-      c ∙ ap (λ (n : ℤ). puts (signed n) o₂) (to_z-of_z w32 y hy) ∙ ap (puts (signed y)) e ∙ pair-joined
-
-pub ruleset text_laws = (hot-absent, hot-at, refusal-placed, refusal-unplaced, joined_laws)
+  pub refusal-unplaced : e.place ≡ None → Puts (ascii "\n") o₁ o₂ → Puts (printed (told_refusal e) 0) o o₂
+  refusal-unplaced h q = rw (h, ← g) (puts-two _ _ f q)

@@ -1,2 +1,2 @@
--- The laws of `printing`.
+-- What the proofs of `printing` share, by module.
 pub mod Laws

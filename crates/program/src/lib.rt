@@ -1,36 +1,30 @@
 // The program's one call: what came of an input is listed, with the limits of document 01. The sizes of its buffers stand in its type.
 #![tactic(auto)]
 
-ghost use Rattle.std.specs.Prelude.{min, ◌≡◌, length};
 ghost use Rattle.program.specs.Program.{ListsInput};
 
+use image::Limits;
 use listing::list;
 use symbol::MAX_IDENTIFIER_LENGTH;
 
 // The limits of document 01: bytes of a text, cells of a picture.
-pub const TEXT_LIMIT: usize = 65536;
-
-pub const CELL_LIMIT: u64 = 65536;
+pub const LIMITS: Limits = Limits {
+    text: 65536,
+    cells: 65536,
+};
 
 // One byte more than a text may have, so that a longer one is seen.
-pub const TEXT_SIZE: usize = TEXT_LIMIT + 1;
+pub const TEXT_SIZE: usize = LIMITS.text + 1;
 
 // A cell for each of the largest picture.
-pub const CELLS_SIZE: usize = CELL_LIMIT as usize;
+pub const CELLS_SIZE: usize = LIMITS.cells as usize;
 
 // Room for every listing.
 pub const OUT_SIZE: usize = 133;
 
-// As many as came, and no more than the buffer has.
-fn at_most(n: usize, buffer: &[u8]) -> usize
-    ensures { result ≡ min n (length buffer.now) }
-{
-    let size = buffer.len();
-    if n < size { n } else { size }
-}
-
 // Lists the input, of which the first n bytes of `text` are all or as much as it has room for.
 // The answer is how many bytes of `out` are the listing.
+// A slice in place of `text` and n would be no plainer: the array's type shows that one byte too many finds room.
 pub fn list_input(
     text: &[u8; TEXT_SIZE],
     n: usize,
@@ -41,7 +35,5 @@ pub fn list_input(
     ensures { ListsInput text.now n name.old cells.old out.old
         name.new cells.new out.new result }
 {
-    let buffer: &[u8] = text;
-    let came = at_most(n, buffer);
-    list(&buffer[..came], name, cells, out, TEXT_LIMIT, CELL_LIMIT)
+    list(&text[..n.min(text.len())], name, cells, out, LIMITS)
 }

@@ -1,3 +1,2 @@
--- The theorems of `report` and what its proofs share, by module.
+-- The theorems of `report`, by module.
 pub mod Examples
-pub mod Laws

@@ -1,4 +1,3 @@
 -- The theorems of `rewriting` and what its proofs share, by module.
 pub mod Sizes
-pub mod Laws
 pub mod Input

@@ -8,14 +8,13 @@ ghost use Rattle.writer.specs.Writing.{writing};
 ghost use Rattle.rewriting.specs.Rewriting.{writing_in, Rewrites};
 ghost use Rattle.rewriting.specs.Program.{RewritesInput};
 
-use error::Refusal;
 use header::XbmHeaderData;
-use image::{LimitedRead, read_within};
+use image::{Limits, read_within};
 use ink::{at_most, cell_count};
 use printing::put_refusal;
-use program::{CELL_LIMIT, CELLS_SIZE, TEXT_LIMIT, TEXT_SIZE};
+use program::{CELLS_SIZE, LIMITS, TEXT_SIZE};
 use symbol::MAX_IDENTIFIER_LENGTH;
-use writer::{XbmWritten, write_xbm};
+use writer::write_xbm;
 
 // Room for the text of every picture of so many cells.
 pub const REWRITTEN_SIZE: usize = 411140;
@@ -26,35 +25,34 @@ fn put_mask(out: &mut [u8], name: &[u8], header: XbmHeaderData, cells: &[u8]) ->
         (take (header.width * header.height) cells.now) out.old) }
 {
     let n = at_most(cell_count(header.width, header.height), cells.len());
-    let hotspot = header.hotspot;
-    match write_xbm(name, header.width, header.height, hotspot, &cells[..n], out) {
-        XbmWritten::Text(size) => size,
-        XbmWritten::Refused(c) => put_refusal(out, Refusal::Unplaced(c)),
+    match write_xbm(name, header, &cells[..n], out) {
+        Ok(size) => size,
+        Err(e) => put_refusal(out, e.into()),
     }
 }
 
-// Rewrites a text, with limits on its bytes and its cells: what is printed goes to the start of `out`, and the answer is its length.
+// Rewrites a text, within limits: what is printed goes to the start of `out`, and the answer is its length.
+#[tactic(auto, unfolding(crate::specs::Rewriting::rewriting))]
 pub fn rewrite(
     text: &[u8],
     name: &mut [u8],
     cells: &mut [u8],
     out: &mut [u8],
-    text_limit: usize,
-    cell_limit: u64,
+    limits: Limits,
 ) -> usize
-    ensures { Rewrites text_limit cell_limit text.now name.old cells.old out.old
+    ensures { Rewrites limits.text limits.cells text.now name.old cells.old out.old
         name.new cells.new out.new result }
 {
-    let read = read_within(text, name, cells, text_limit, cell_limit);
-    let image = read.image;
-    match image {
-        LimitedRead::Read(d) => put_mask(out, &name[..read.name], d, cells),
-        LimitedRead::Refused(e) => put_refusal(out, e),
+    let read = read_within(text, name, cells, limits);
+    match read.image {
+        Ok(header) => put_mask(out, &name[..read.name], header, cells),
+        Err(e) => put_refusal(out, e.into()),
     }
 }
 
 // Rewrites the input, of which the first n bytes of `text` are all or as much as it has room for.
 // The answer is how many bytes of `out` are the rewritten text, or the line of a refusal.
+// A slice in place of `text` and n would be no plainer: the array's type shows that one byte too many finds room.
 pub fn rewrite_input(
     text: &[u8; TEXT_SIZE],
     n: usize,
@@ -65,7 +63,5 @@ pub fn rewrite_input(
     ensures { RewritesInput text.now n name.old cells.old out.old
         name.new cells.new out.new result }
 {
-    let buffer: &[u8] = text;
-    let came = at_most(n as u64, buffer.len());
-    rewrite(&buffer[..came], name, cells, out, TEXT_LIMIT, CELL_LIMIT)
+    rewrite(&text[..n.min(text.len())], name, cells, out, LIMITS)
 }

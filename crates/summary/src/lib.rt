@@ -4,74 +4,47 @@
 ghost use Rattle.std.specs.Prelude.{◌≡◌, []};
 ghost use Rattle.header.specs.Answer.{told_header};
 ghost use Rattle.image.specs.Reading.{told_image};
-ghost use Rattle.report.specs.Report.{refusal, of_refusal, of_header, of_image};
+ghost use Rattle.report.specs.Report.{of_answer, of_header, of_image};
 
-use error::{Refusal, refusal_of};
-use header::{HeaderAnswer, HeaderRead, Hotspot};
-use image::{ImageAnswer, ImageRead};
+use error::Refusal;
+use header::{HeaderAnswer, XbmHeaderData};
+use image::{ImageAnswer, ImageError};
 use report::Summary;
 use text::{TextLocation, no_place};
 
-fn refused(number: u32, place: TextLocation, name: usize) -> Summary
-    ensures { result ≡ refusal number place name }
+// A header and the place that is told with it; or a refusal, and where the parser stood if it tells that.
+fn answer_told(header: Result<(XbmHeaderData, TextLocation), Refusal>, name: usize) -> Summary
+    ensures { result ≡ of_answer header name }
 {
-    Summary {
-        number,
-        place,
-        width: 0,
-        height: 0,
-        name,
-        hotspot: Hotspot::Absent,
-    }
-}
-
-// A refusal, and where the parser stood if it tells that.
-fn refusal_told(refusal: Refusal, name: usize) -> Summary
-    ensures { result ≡ of_refusal refusal name }
-{
-    match refusal {
-        Refusal::Placed(number, place) => refused(number, place, name),
-        Refusal::Unplaced(number) => refused(number, no_place(), name),
+    match header {
+        Ok((d, place)) => Summary {
+            number: 0,
+            place,
+            width: d.width,
+            height: d.height,
+            name,
+            hotspot: d.hotspot,
+        },
+        Err(refusal) => Summary {
+            number: refusal.number,
+            place: refusal.place.unwrap_or_else(no_place),
+            width: 0,
+            height: 0,
+            name,
+            hotspot: None,
+        },
     }
 }
 
 pub fn header_told(read: HeaderAnswer) -> Summary
     ensures { result ≡ of_header (told_header [] read.header) read.name }
 {
-    let header = read.header;
-    match header {
-        HeaderRead::Read(d, place) => {
-            let hotspot = d.hotspot;
-            Summary {
-                number: 0,
-                place,
-                width: d.width,
-                height: d.height,
-                name: read.name,
-                hotspot,
-            }
-        }
-        HeaderRead::Refused(e) => refusal_told(refusal_of(e), read.name),
-    }
+    answer_told(read.header.map_err(Refusal::from), read.name)
 }
 
-pub fn image_told(read: ImageAnswer) -> Summary
+pub fn image_told(read: ImageAnswer<ImageError>) -> Summary
     ensures { result ≡ of_image (told_image [] read.image) read.name }
 {
-    let image = read.image;
-    match image {
-        ImageRead::Read(d) => {
-            let hotspot = d.hotspot;
-            Summary {
-                number: 0,
-                place: no_place(),
-                width: d.width,
-                height: d.height,
-                name: read.name,
-                hotspot,
-            }
-        }
-        ImageRead::Refused(e) => refusal_told(refusal_of(e), read.name),
-        ImageRead::DimensionMismatch => refused(31, no_place(), read.name),
-    }
+    let image = read.image.map(|d| (d, no_place()));
+    answer_told(image.map_err(Refusal::from), read.name)
 }

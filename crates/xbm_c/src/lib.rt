@@ -3,16 +3,26 @@
 
 ghost use Rattle.std.specs.Prelude.{◌≡◌};
 ghost use Rattle.xbm_c.specs.Next.{result_at, decoder_at, report_at};
-ghost use Rattle.xbm_c.specs.Told.{HeaderCall, ImageCall};
+ghost use Rattle.xbm_c.specs.Told.{Tells, HeaderCall, ImageCall};
 ghost use Rattle.xbm_c.specs.Write.{WriteCall};
 
 use byte_report::tell;
 use decoder::{XbmStreamDecoder, next_byte};
-use header::read_xbm_header;
+use error::Refusal;
+use header::{XbmHeaderData, read_xbm_header};
 use image::read_image;
-use report::{hotspot_given, write_hotspot, write_report};
+use report::{Summary, hotspot_given, write_hotspot, write_report};
 use summary::{header_told, image_told};
-use writer::{XbmWritten, write_xbm};
+use writer::write_xbm;
+
+// What a call tells, in numbers.
+fn hand_back(s: Summary, report: &mut [u64; 10], hotspot: &mut [i32; 2]) -> u32
+    ensures { Tells s report.new hotspot.new result }
+{
+    write_report(s, report);
+    write_hotspot(s.hotspot, hotspot);
+    s.number
+}
 
 // Reads the header into the lent name buffer.
 #[unsafe(no_mangle)]
@@ -24,11 +34,7 @@ pub extern "C" fn xbm_read_header(
 ) -> u32
     ensures { HeaderCall text.now name.old name.new report.new hotspot.new result }
 {
-    let s = header_told(read_xbm_header(text, name));
-    write_report(s, report);
-    let spot = s.hotspot;
-    write_hotspot(spot, hotspot);
-    s.number
+    hand_back(header_told(read_xbm_header(text, name)), report, hotspot)
 }
 
 // Reads the header into the lent name buffer, and then the rows of cells into the lent pixel buffer.
@@ -42,11 +48,7 @@ pub extern "C" fn xbm_read_image(
 ) -> u32
     ensures { ImageCall text.now name.old pixels.old name.new pixels.new report.new hotspot.new result }
 {
-    let s = image_told(read_image(text, name, pixels));
-    write_report(s, report);
-    let spot = s.hotspot;
-    write_hotspot(spot, hotspot);
-    s.number
+    hand_back(image_told(read_image(text, name, pixels)), report, hotspot)
 }
 
 // The next data byte of the text, or the trailer after the last one. The decoder that is lent goes on.
@@ -80,14 +82,19 @@ pub extern "C" fn xbm_write(
     ensures { WriteCall name.now width height has_hotspot x y cells.now out.old out.new length.new result }
 {
     let hotspot = hotspot_given(has_hotspot, x, y);
-    match write_xbm(name, width, height, hotspot, cells, out) {
-        XbmWritten::Text(n) => {
+    let header = XbmHeaderData {
+        width,
+        height,
+        hotspot,
+    };
+    match write_xbm(name, header, cells, out) {
+        Ok(n) => {
             *length = n as u64;
             0
         }
-        XbmWritten::Refused(c) => {
+        Err(e) => {
             *length = 0;
-            c
+            Refusal::from(e).number
         }
     }
 }

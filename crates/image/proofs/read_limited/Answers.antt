@@ -1,10 +1,13 @@
 -- What the search leaves of `read_limited`.
-use Rattle.std.proofs.Common.{rules}
-use Rattle.image.proofs.Limit.{headed_laws}
+use Rattle.std.proofs.Common.{arith, rules}
+use Rattle.image.proofs.Limit.{headed-read}
+use Rattle.std.proofs.lemmas.Grind.{common_steps}
+use Rattle.image.specs.Limited.{limited, after_header}
 use Rattle.image.proofs.read_limited.Goals as goal
 
-pub returns-in-Read : goal.returns-in-Read
-returns-in-Read c = search (headed_laws, rules)
+pub returns-in-Ok : goal.returns-in-Ok
+returns-in-Ok c = search (headed-read, rules)
 
-pub returns-in-Refused : goal.returns-in-Refused
-returns-in-Refused c = search (headed_laws, rules)
+pub returns-in-Err : goal.returns-in-Err
+unfolding limited after_header
+returns-in-Err c = grind (arith, common_steps)

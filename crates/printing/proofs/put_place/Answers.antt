@@ -1,7 +1,6 @@
 -- What the search leaves of `put_place`.
-use Rattle.std.proofs.Common.{rules}
-use Rattle.printing.proofs.Laws.{text_laws}
+use Rattle.print.proofs.Steps.{puts-four}
 use Rattle.printing.proofs.put_place.Goals as goal
 
 pub returns : goal.returns
-returns c = search (text_laws, rules)
+returns c = puts-four _ _ c.put_field.ensures c.put_field-2.ensures _ c.put_field-3.ensures _ c.put_field-4.ensures

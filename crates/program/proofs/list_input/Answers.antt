@@ -5,8 +5,7 @@ use Rattle.program.proofs.list_input.Goals as goal
 
 pub returns : goal.returns
 returns c =
-    let came = c.at_most-came in
-    lists-input _ _ came.result _ _ _ _ _ c.list.ensures came.ensures
+    lists-input _ _ _ _ _ _ _ c.list.ensures c.min.ensures
     (search rules)  -- the text
     (search rules)  -- the output
     (search rules)  -- the name

@@ -5,8 +5,7 @@ use Rattle.rewriting.proofs.rewrite_input.Goals as goal
 
 pub returns : goal.returns
 returns c =
-    let came = c.at_most-came in
-    rewrites-input _ _ came.result _ _ _ _ _ c.rewrite.ensures came.ensures
+    rewrites-input _ _ _ _ _ _ _ c.rewrite.ensures c.min.ensures
     (search rules)  -- the text
     (search rules)  -- the name
     (search rules)  -- the cells

@@ -1,2 +1,0 @@
--- What the proofs of `name` share, by module.
-pub mod Laws

@@ -1,2 +1,0 @@
--- What the proofs of `summary` share, by module.
-pub mod Laws
