@@ -1,10 +1,11 @@
 -- Writing a mask into a lent buffer: what is answered, and what the buffer holds later.
-use Rattle.std.specs.Prelude.{ℕ, Bool, true, false, List, [], ◌∷◌, length, eqb, leb, ℤ, Result as Answer, Ok, Err}
+use Rattle.std.specs.Prelude.{ℕ, Bool, true, false, List, [], ◌∷◌, length, eqb, leb, ℤ, None, Result as Answer, Ok, Err}
 use Rattle.std.proofs.Math.Option.{Option}
 use Rattle.text.specs.Place.{pick}
 use Rattle.text.specs.Outcome.{Outcome, accepted, unplaced}
 use Rattle.lexical.specs.Token.{overlay}
 use Rattle.mask.specs.Fault.{fault}
+use Rattle.error.specs.declared.Refusal.{Refusal}
 use Rattle.writer.specs.Written.{written}
 use Rattle.mask.specs.declared.MaskError.{MaskError}
 use Rattle.mask.specs.declared.MaskError.TheVariants.{ZeroSide as NoSide, CellCount as OtherCount, CellValue as NoCell}
@@ -64,6 +65,9 @@ number_of ZeroSide = 52
 number_of CellCount = 53
 number_of CellValue = 54
 number_of ShortOutput = 55
+
+abbrev pub refusal_of : XbmEncodeError → Refusal
+refusal_of e = record { number = number_of e; place = None }
 
 -- what is found wrong; 0 where nothing is
 abbrev pub told_check : Answer (Unit {0}) XbmEncodeError → ℕ

@@ -8,9 +8,10 @@ ghost use Rattle.lexical.specs.Lexical.{is_loose};
 ghost use Rattle.print.specs.Output.{output, puts};
 ghost use Rattle.data_text.specs.Packed.{packed};
 ghost use Rattle.writer.specs.Written.{whole_text, written};
-ghost use Rattle.writer.specs.Writing.{good_name, wrong, stored, writing, error_of, number_of, told_check, told_writing};
+ghost use Rattle.writer.specs.Writing.{good_name, wrong, stored, writing, error_of, refusal_of, told_check, told_writing};
 
 use data_text::{data_length, put_data};
+use error::Refusal;
 use header::XbmHeaderData;
 use header_text::put_header;
 use lexical::is_loose;
@@ -45,11 +46,14 @@ impl From<MaskError> for XbmEncodeError {
     }
 }
 
-impl From<XbmEncodeError> for u32 {
-    ghost from_gives = { λ e r. r ≡ number_of e };
+impl From<XbmEncodeError> for Refusal {
+    ghost from_gives = { λ e r. r ≡ refusal_of e };
 
-    fn from(e: XbmEncodeError) -> u32 {
-        e as u32
+    fn from(e: XbmEncodeError) -> Refusal {
+        Refusal {
+            number: e as u32,
+            place: None,
+        }
     }
 }
 
