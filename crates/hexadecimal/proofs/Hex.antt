@@ -1,21 +1,22 @@
 -- What a step of the code says of hex bytes.
 use mir.Syntax.{w8}
 use mir.Val.{Fits}
-use Prim.Native.Nat.{ℕ, zero, suc, ◌+◌, ◌*◌, ◌<◌}
+use Prim.Native.Nat.{ℕ, zero, suc, ◌+◌, ◌*◌, ◌^◌, ◌<◌}
 use native.Mathlib.Omega.{arith}
 use borrow.Author.Tests.{ltb-true}
 use mathlib.Core.Path.{◌≡◌, refl, ap, ◌∙◌}
 use mathlib.Core.Option.{none, some}
 use mathlib.Core.List.{List, [], ◌∷◌}
 use mathlib.Core.Bool.{Bool, true, false}
-use lib.ListN.{get_or}
+use lib.ListN.{length, get_or}
 use lib.Dec.{ltb}
 use Rattle.std.specs.Prelude.{Option as Value, Some, None, ok_or, Result as Answer, Ok, Err}
 use Rattle.text.specs.declared.TextLocation.{TextLocation}
-use Rattle.text.specs.Place.{pick, rest, after, took_at}
+use Rattle.text.specs.Place.{pick, rest, after, past_byte, peeked, peeked_at}
+use Rattle.text.proofs.PlaceLaws.{byte-after, rest-sound, rest-inside}
 use Rattle.text.specs.Reader.{Result, ok, stop, Reader, ◌>>=◌}
 use Rattle.text.specs.Leaf.{one, first, judge}
-use Rattle.text.proofs.Reading.{bind_ok, bind-stop, one-past, one-stop, one_end}
+use Rattle.text.proofs.Reading.{bind_ok, bind-stop}
 use Rattle.lexical.specs.declared.XbmPart.{XbmPart}
 use Rattle.lexical.specs.Lexical.{number, told, told_byte}
 use Rattle.lexical.proofs.Laws.{told-refused}
@@ -43,17 +44,36 @@ module _ (b : ℕ) {r : Value ℕ} (e : r ≡ value_of b) where
 same_error : {A : Type 0} {x y : ParseError} → ◌≡◌ {A = Answer A ParseError} (Err x) (Err y) → x ≡ y
 same_error h = cc
 
--- the exits of a `?` on a byte and on its value, with an error of their own
-module _ (part : XbmPart) (t : List ℕ) (i : TextLocation) {r : Value (ℕ × TextLocation)} {m : Answer (ℕ × TextLocation) ParseError} {x : ParseError} (e : r ≡ took_at t i) where
-  pub digit-end : r ≡ None → Err x ≡ ok_or r (record { part = part; place = i }) → m ≡ Err x → told_byte m ≡ hex_digit (number part) t i
-  unfolding hex_digit
-  digit-end n u h = let y : x ≡ record { part = part; place = i } = same_error {A = _} (rw n at u) in rw (h, y) (one_end (number part) hexv t i e n)
+-- a digit at a place, by a look at its byte; past it the place is made of the byte
+module _ (part : XbmPart) (t : List ℕ) (i : TextLocation) {r : Value ℕ} (e : r ≡ peeked_at t i) where
+  found : {b : ℕ} → r ≡ Some b → (l : List ℕ) × (rest t i ≡ b ∷ l)
+  found {b} m = go (rest t i) refl e
+    where
+      go : (l : List ℕ) → rest t i ≡ l → r ≡ peeked l → (k : List ℕ) × (rest t i ≡ b ∷ k)
+      go [] h u = cc
+      go (x ∷ l) h u = let y : x ≡ b = cc in (l, h ∙ ap (λ (n : ℕ). n ∷ l) y)
 
-  pub digit-not : {b : ℕ} {q : TextLocation} {v : Value ℕ} → r ≡ Some (b, q) → v ≡ value_of b → v ≡ None → Err x ≡ ok_or v (record { part = part; place = q }) → m ≡ Err x → told_byte m ≡ hex_digit (number part) t i
-  unfolding hex_digit
-  digit-not {b} {q} s w n u h = let y : x ≡ record { part = part; place = q } = same_error {A = _} (rw n at u) in rw (h, y) (one-stop (number part) hexv t i e s (hex-none b w n))
+  module _ {b : ℕ} (m : r ≡ Some b) {p : TextLocation} (room : length t * 1 < 2 ^ 63) (k : p ≡ past_byte i b) where
+    past : p ≡ after b i
+    past = let (l, h) = found m in k ∙ byte-after i (rest-sound t i h) b (omega (arith, rest-inside t i h))
 
-pub ruleset digit_laws = (one-past, hex-is, digit-end, digit-not)
+    pub digit-is : {o : Value ℕ} {v : ℕ} → o ≡ value_of b → o ≡ Some v → ok v p ≡ hex_digit (number part) t i
+    unfolding hex_digit one
+    digit-is w n = let (l, h) = found m in rw (h, hex-is b w n, past)
+
+    pub digit-not : {o : Value ℕ} → o ≡ value_of b → o ≡ None → stop (number part) p ≡ hex_digit (number part) t i
+    unfolding hex_digit one
+    digit-not w n = let (l, h) = found m in rw (h, hex-none b w n, past)
+
+  pub digit-end : {m : Answer (ℕ × TextLocation) ParseError} {x : ParseError} → r ≡ None → Err x ≡ ok_or r (record { part = part; place = i }) → m ≡ Err x → told_byte m ≡ hex_digit (number part) t i
+  unfolding hex_digit one
+  digit-end {m} {x} n u h = let y : x ≡ record { part = part; place = i } = same_error {A = _} (rw n at u) in rw (h, y) (go (rest t i) e)
+    where
+      go : (l : List ℕ) → r ≡ peeked l → stop (number part) i ≡ first (number part) hexv l i
+      go [] u = refl
+      go (b ∷ l) u = cc
+
+pub ruleset digit_laws = (digit-is, digit-not, digit-end)
 
 -- an answer that is matched on
 module _ {d : Result ℕ} {m : Answer (ℕ × TextLocation) ParseError} (e : told_byte m ≡ d) where

@@ -7,7 +7,7 @@ ghost use Rattle.hexadecimal.specs.Hex.{value_of, hex_table, is_mark, hex_digit,
 
 use hex_table::HEX;
 use lexical::{ParseError, XbmPart, read_byte_of, read_fixed_string};
-use text::{TextLocation, past_byte, take};
+use text::{TextLocation, past_byte, peek};
 
 mod hex_table;
 
@@ -31,7 +31,7 @@ pub fn hex_values() -> [u8; 256]
     HEX
 }
 
-// Read a single hex digit, either upper or lower case. Past a digit, as past `x`, no newline is looked for.
+// Read a single hex digit, either upper or lower case. The place past it is made of the byte, so that no newline is looked for past a digit.
 pub fn read_hex_digit(
     text: &[u8],
     place: TextLocation,
@@ -39,9 +39,14 @@ pub fn read_hex_digit(
 ) -> Result<(u8, TextLocation), ParseError>
     ensures { told_byte result ≡ hex_digit (number part) text.now place }
 {
-    let (b, next) = take(text, place).ok_or(ParseError { part, place })?;
-    let v = hex_value(b).ok_or(ParseError { part, place: next })?;
-    Ok((v, past_byte(place, b)))
+    let b = peek(text, place).ok_or(ParseError { part, place })?;
+    match hex_value(b) {
+        Some(v) => Ok((v, past_byte(place, b))),
+        None => Err(ParseError {
+            part,
+            place: past_byte(place, b),
+        }),
+    }
 }
 
 // `x` or `X`.

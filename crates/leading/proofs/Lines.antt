@@ -1,17 +1,16 @@
 -- Lines that are skipped: a line's rest at once, and the lines before the first define line.
+use native.Mathlib.Numerals.{add-one}
 use Prim.Native.Nat.{ℕ, suc, ◌+◌, ◌-◌, ◌*◌, ◌^◌, ◌<◌, ◌≤◌}
 use native.Mathlib.Nat.{zero-add}
 use native.Mathlib.Omega.{arith}
 use native.Mathlib.Decide.{dec_lt}
-use borrow.Author.Tests.{eq-eqb, ne_eqb, eqb-true, lt-ltb, le-ltb, ltb-false}
+use borrow.Author.Tests.{eq-eqb, ne_eqb, eqb-true, lt-ltb, le-ltb}
 use mathlib.Core.Path.{◌≡◌, refl, sym, ap, ◌∙◌}
 use mathlib.Core.Option.{none}
 use mathlib.Core.List.{List, [], ◌∷◌}
-use mathlib.Core.Bool.{Bool, true, false, cond}
-use Rattle.std.specs.List.{position_or_len}
-use Rattle.std.proofs.lemmas.List.Recursion.{is_position_or_len}
-use Rattle.std.proofs.Math.Seq.{take-length}
-use lib.ListN.{length, take, drop, length-drop}
+use mathlib.Core.Bool.{Bool, true, false}
+use lib.ListN.{length, drop, get_or, drop_of_length-le, length-drop}
+use lib.Seq.{drop-cons}
 use lib.Dec.{eqb, ltb}
 use Rattle.std.specs.Prelude.{Option as Found, Some, None, ok_or, Result as Answer, Ok, Err}
 use Rattle.text.specs.declared.TextLocation.{TextLocation}
@@ -23,8 +22,23 @@ use Rattle.text.specs.Reader.{Result, ok, stop, then, ◌>>=◌}
 use Rattle.text.specs.Leaf.{one, run, scan}
 use Rattle.lexical.specs.declared.XbmPart.{XbmPart}
 use Rattle.lexical.specs.declared.ParseError.{ParseError}
-use Rattle.lexical.specs.Lexical.{number, told, is, byte, skip, lead, leading}
+use Rattle.lexical.specs.Lexical.{number, told, byte, skip, lead, leading}
 use Rattle.leading.specs.Line.{line_of, in_line, line_rest}
+
+-- ---- where a line ends
+
+-- i is reached in the search from `from` on
+module _ (s : List ℕ) (from i : ℕ) (e : i + length (line_of (drop i s)) ≡ from + length (line_of (drop from s))) where
+  pub end-here : i < length s → get_or s i 0 ≡ 10 → i ≡ from + length (line_of (drop from s))
+  end-here h k = let z : length (line_of (drop i s)) ≡ 0 = rw (drop-cons s i 0 h, eq-eqb _ _ k) in omega arith
+
+  pub end_on : i < length s → (get_or s i 0 ≡ 10 → ⊥) → i + 1 + length (line_of (drop (i + 1) s)) ≡ from + length (line_of (drop from s))
+  end_on h k = let z : length (line_of (drop i s)) ≡ suc (length (line_of (drop (i + 1) s))) = rw (add-one, drop-cons s i 0 h, ne_eqb _ _ k) in omega arith
+
+  pub end_none : length s ≤ i → (from ≤ length s → i ≤ length s) → from ≤ length s → length s ≡ from + length (line_of (drop from s))
+  end_none h k l = let z : length (line_of (drop i s)) ≡ 0 = rw (drop_of_length-le s h) in omega (arith, k l)
+
+pub ruleset end_laws = (end-here, end_on, end_none)
 
 -- ---- the rest of a line, by what remains
 
@@ -77,30 +91,19 @@ line_plain (b ∷ l) = go (eqb b 10) refl (line_plain l)
     go true h ih = refl
     go false h ih = rw (h, zero-add) ih
 
--- where the first newline is
-abbrev pub newline_in : List ℕ → Found ℕ
-newline_in l = cond (ltb (position_or_len (is 10) l) (length l)) (Some (position_or_len (is 10) l)) None
-
-newline-is : (l : List ℕ) → newline_in l ≡ cond (ltb (length (line_of l)) (length l)) (Some (length (line_of l))) None
-newline-is l = rw (is_position_or_len (λ m. length (line_of m)) (is 10) refl (λ x m. go x m (eqb x 10)) l) refl
-  where
-    go : (x : ℕ) (m : List ℕ) (w : Bool) → length (pick w [] (x ∷ line_of m)) ≡ cond w 0 (1 + length (line_of m))
-    go x m true = refl
-    go x m false = omega arith
-
--- what remains, as it is lent
-abbrev pub left : List ℕ → TextLocation → List ℕ
-left t p = take (length t - byte_of p) (drop (byte_of p) t)
-
 -- ---- skipping the rest of a line at a place
 
 module _ (c : ℕ) (t : List ℕ) (p : TextLocation) {f : Bool} (g : f ≡ has_left t p 1) where
   pub line-none : f ≡ false → stop c p ≡ line_rest c t p
   line-none h = sym (line_at c t [] p (left-none t p (sym g ∙ h)))
 
-  module _ (h : f ≡ true) (m : length t * 1 < 2 ^ 63) where
-    left-all : left t p ≡ drop (byte_of p) t
-    left-all = rw (← length-drop (byte_of p) t) (take-length (drop (byte_of p) t))
+  module _ (h : f ≡ true) where
+    pub line-from : byte_of p ≤ length t
+    line-from = omega (arith, (left-inside t p 1 (sym g ∙ h)).0)
+
+  module _ (h : f ≡ true) {e : ℕ} (k : e ≡ byte_of p + length (line_of (drop (byte_of p) t))) (m : length t * 1 < 2 ^ 63) where
+    size : e - byte_of p ≡ length (line_of (drop (byte_of p) t))
+    size = omega arith
 
     inside : byte_of p + 1 ≤ length t
     inside = (left-inside t p 1 (sym g ∙ h)).0
@@ -108,30 +111,23 @@ module _ (c : ℕ) (t : List ℕ) (p : TextLocation) {f : Bool} (g : f ≡ has_l
     sound : Sound p
     sound = (left-inside t p 1 (sym g ∙ h)).1
 
-    remains : rest t p ≡ (left t p)
-    remains = sound-rest t p sound ∙ sym left-all
+    pub line-to : {q : TextLocation} → e < length t → q ≡ past_line p (e - byte_of p) → ok tt q ≡ line_rest c t p
+    line-to l w =
+        let x : length (line_of (drop (byte_of p) t)) < length (drop (byte_of p) t) = omega (arith, inside, length-drop (byte_of p) t) in
+        sym (line_at c t (drop (byte_of p) t) p (sound-rest t p sound)
+        ∙ rw (lt-ltb _ _ x, w, size, line-past p (line_of (drop (byte_of p) t)) sound (line_plain (drop (byte_of p) t)) (omega arith)))
 
-    left-size : byte_of p + length (left t p) ≤ length t
-    left-size = omega (arith, inside, ap length left-all, length-drop (byte_of p) t)
+    pub line-out : {q : TextLocation} → length t ≤ e → q ≡ along_line p (e - byte_of p) → stop c q ≡ line_rest c t p
+    line-out l w =
+        let x : length (drop (byte_of p) t) ≤ length (line_of (drop (byte_of p) t)) = omega (arith, inside, length-drop (byte_of p) t) in
+        let y : byte_of p + length (line_of (drop (byte_of p) t)) < 2 ^ 64 = omega (arith, inside, line-short (drop (byte_of p) t), length-drop (byte_of p) t) in
+        sym (line_at c t (drop (byte_of p) t) p (sound-rest t p sound)
+        ∙ rw (le-ltb _ _ x, w, size, along-past p (line_of (drop (byte_of p) t)) sound (line_plain (drop (byte_of p) t)) y))
 
-    pub line-to : {r : Found ℕ} {n : ℕ} {q : TextLocation} → r ≡ newline_in (left t p) → r ≡ Some n → q ≡ past_line p n → ok tt q ≡ line_rest c t p
-    line-to {r} {n} {q} e k w = sym (line_at c t (left t p) p remains ∙ go (ltb (length (line_of (left t p))) (length (left t p))) (e ∙ newline-is (left t p)))
-      where
-        go : (x : Bool) → r ≡ cond x (Some (length (line_of (left t p)))) None → pick x (ok (tt {0}) (after 10 (past p (line_of (left t p))))) (stop c (past p (line_of (left t p)))) ≡ ok (tt {0}) q
-        go true u = let z : length (line_of (left t p)) ≡ n = cc in rw (w, ← z, line-past p (line_of (left t p)) sound (line_plain (left t p)) (omega (arith, left-size, line-short (left t p))))
-        go false u = cc
-
-    pub line-out : {r : Found ℕ} {q : TextLocation} → r ≡ newline_in (left t p) → r ≡ None → q ≡ along_line p (length (left t p)) → stop c q ≡ line_rest c t p
-    line-out {r} {q} e k w = sym (line_at c t (left t p) p remains ∙ go (ltb (length (line_of (left t p))) (length (left t p))) refl (e ∙ newline-is (left t p)))
-      where
-        go : (x : Bool) → ltb (length (line_of (left t p))) (length (left t p)) ≡ x → r ≡ cond x (Some (length (line_of (left t p)))) None → pick x (ok (tt {0}) (after 10 (past p (line_of (left t p))))) (stop c (past p (line_of (left t p)))) ≡ stop c q
-        go true v u = cc
-        go false v u = let z : length (left t p) ≡ length (line_of (left t p)) = omega (arith, ltb-false (length (line_of (left t p))) (length (left t p)) v, line-short (left t p)) in rw (w, z, along-past p (line_of (left t p)) sound (line_plain (left t p)) (omega (arith, left-size, line-short (left t p))))
+-- ---- lines before the first define line
 
 same_error : {A : Type 0} {x y : ParseError} → ◌≡◌ {A = Answer A ParseError} (Err x) (Err y) → x ≡ y
 same_error h = cc
-
--- ---- lines before the first define line
 
 -- inside a line: its rest, and then lines again
 lead-line : (c : ℕ) (t l : List ℕ) (i : TextLocation) → rest t i ≡ l → leading c false t i ≡ then (line_rest c t i) (λ a e. leading c true t e)
@@ -188,7 +184,7 @@ line-less c t (b ∷ l) i q e h = go (eqb b 10) refl (λ u. line-less c t l (aft
 pub lines-less : (c : ℕ) (t : List ℕ) (i : TextLocation) {s : Answer TextLocation ParseError} {q : TextLocation} → told s ≡ line_rest c t i → s ≡ Ok q → length (rest t q) < length (rest t i)
 lines-less c t i {s} {q} g n = line-less c t (rest t i) i q refl (sym (ap told n) ∙ g)
 
-pub ruleset line_laws = (line-none, line-to, line-out)
+pub ruleset line_laws = (line-none, line-from, line-to, line-out)
 
 -- the exit of a `?` on a look at the next byte
 pub lines-over : (part : XbmPart) (t : List ℕ) (i : TextLocation) {z : Result (Unit {0})} {r : Found ℕ} {m : Answer TextLocation ParseError} {x : ParseError} → r ≡ peeked_at t i → r ≡ None

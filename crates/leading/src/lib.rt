@@ -1,12 +1,25 @@
 // The lines before the first define line, skipped whole. Only this crate knows how a line's end is found.
 #![tactic(auto)]
 
-ghost use Rattle.std.specs.Prelude.{true, ◌≡◌};
+ghost use Rattle.std.specs.Prelude.{true, ◌≡◌, ◌+◌, ◌≤◌, length, drop};
 ghost use Rattle.lexical.specs.Lexical.{number, told, leading};
-ghost use Rattle.leading.specs.Line.{line_rest};
+ghost use Rattle.leading.specs.Line.{line_of, line_rest};
 
 use lexical::{ParseError, XbmPart};
 use text::{TextLocation, along, has_left, past_line, peek};
+
+// The first newline from `from` on, or the end. By index: `position` takes a fifth more instructions.
+fn line_end(text: &[u8], from: usize) -> usize
+    requires { from ≤ length text.now }
+    ensures { result ≡ from + length (line_of (drop from text.now)) }
+{
+    for i in from..text.len() {
+        if text[i] == b'\n' {
+            return i;
+        }
+    }
+    text.len()
+}
 
 // The rest of a line, with its newline.
 fn skip_line(text: &[u8], place: TextLocation, part: XbmPart) -> Result<TextLocation, ParseError>
@@ -15,13 +28,16 @@ fn skip_line(text: &[u8], place: TextLocation, part: XbmPart) -> Result<TextLoca
     if !has_left(text, place, 1) {
         return Err(ParseError { part, place });
     }
-    let left = &text[place.byte.0 as usize..];
-    match left.iter().position(|b| *b == b'\n') {
-        Some(size) => Ok(past_line(place, size as u64)),
-        None => Err(ParseError {
+    let from = place.byte.0 as usize;
+    let end = line_end(text, from);
+    let size = (end - from) as u64;
+    if end < text.len() {
+        Ok(past_line(place, size))
+    } else {
+        Err(ParseError {
             part,
-            place: along(place, left.len() as u64),
-        }),
+            place: along(place, size),
+        })
     }
 }
 
