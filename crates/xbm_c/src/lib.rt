@@ -25,6 +25,7 @@ fn hand_back(s: Summary, report: &mut [u64; 10], hotspot: &mut [i32; 2]) -> u32
 }
 
 // Reads the header into the lent name buffer.
+#[tactic(auto, unfolding(crate::specs::Told::header_told))]
 #[unsafe(no_mangle)]
 pub extern "C" fn xbm_read_header(
     text: &[u8],
@@ -38,6 +39,7 @@ pub extern "C" fn xbm_read_header(
 }
 
 // Reads the header into the lent name buffer, and then the rows of cells into the lent pixel buffer.
+#[tactic(auto, unfolding(crate::specs::Told::image_told))]
 #[unsafe(no_mangle)]
 pub extern "C" fn xbm_read_image(
     text: &[u8],
