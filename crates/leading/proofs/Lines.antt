@@ -1,4 +1,5 @@
 -- Lines that are skipped: a line's rest at once, and the lines before the first define line.
+use Rattle.std.specs.Prelude.{max}
 use native.Mathlib.Numerals.{add-one}
 use Prim.Native.Nat.{ℕ, suc, ◌+◌, ◌-◌, ◌*◌, ◌^◌, ◌<◌, ◌≤◌}
 use native.Mathlib.Nat.{zero-add}
@@ -35,8 +36,13 @@ module _ (s : List ℕ) (from i : ℕ) (e : i + length (line_of (drop i s)) ≡ 
   pub end_on : i < length s → (get_or s i 0 ≡ 10 → ⊥) → i + 1 + length (line_of (drop (i + 1) s)) ≡ from + length (line_of (drop from s))
   end_on h k = let z : length (line_of (drop i s)) ≡ suc (length (line_of (drop (i + 1) s))) = rw (add-one, drop-cons s i 0 h, ne_eqb _ _ k) in omega arith
 
-  pub end_none : length s ≤ i → (from ≤ length s → i ≤ length s) → from ≤ length s → length s ≡ from + length (line_of (drop from s))
-  end_none h k l = let z : length (line_of (drop i s)) ≡ 0 = rw (drop_of_length-le s h) in omega (arith, k l)
+  pub end_none : length s ≤ i → (from ≤ length s → i ≤ length s) → max (length s) from ≡ from + length (line_of (drop from s))
+  end_none h k =
+      go (dec_lt (length s) from)
+    where
+      go : Dec (length s < from) → max (length s) from ≡ from + length (line_of (drop from s))
+      go (yes l) = let y : length (line_of (drop from s)) ≡ 0 = rw (drop_of_length-le s {i = from} (omega arith)) in omega arith
+      go (no l) = let z : length (line_of (drop i s)) ≡ 0 = rw (drop_of_length-le s h) in omega (arith, k (omega arith))
 
 pub ruleset end_laws = (end-here, end_on, end_none)
 

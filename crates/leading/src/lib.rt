@@ -1,7 +1,7 @@
 // The lines before the first define line, skipped whole. Only this crate knows how a line's end is found.
 #![tactic(auto)]
 
-ghost use Rattle.std.specs.Prelude.{true, ◌≡◌, ◌+◌, ◌≤◌, length, drop};
+ghost use Rattle.std.specs.Prelude.{true, ◌≡◌, ◌+◌, length, drop};
 ghost use Rattle.lexical.specs.Lexical.{number, told, leading};
 ghost use Rattle.leading.specs.Line.{line_of, line_rest};
 
@@ -10,7 +10,6 @@ use text::{TextLocation, along, has_left, past_line, peek};
 
 // The first newline from `from` on, or the end. By index: `position` takes a fifth more instructions.
 fn line_end(text: &[u8], from: usize) -> usize
-    requires { from ≤ length text.now }
     ensures { result ≡ from + length (line_of (drop from text.now)) }
 {
     for i in from..text.len() {
@@ -18,7 +17,7 @@ fn line_end(text: &[u8], from: usize) -> usize
             return i;
         }
     }
-    text.len()
+    text.len().max(from)
 }
 
 // The rest of a line, with its newline.
