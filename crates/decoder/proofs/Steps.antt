@@ -9,16 +9,13 @@ use mathlib.Core.Option.{Option, none, some}
 use mathlib.Core.List.{List}
 use mathlib.Core.Bool.{Bool, true, false}
 use lib.Dec.{eqb, ltb}
+use Rattle.std.specs.Prelude.{Result as Answer, Ok, Err}
 use Rattle.text.specs.declared.TextLocation.{TextLocation}
+use Rattle.lexical.specs.declared.ParseError.{ParseError}
 use Rattle.text.specs.Place.{is_foreign}
 use Rattle.text.specs.Reader.{◌>>=◌}
 use Rattle.text.specs.Leaf.{give}
 use Rattle.text.specs.Outcome.{Outcome, accepted, refused, unplaced}
-use Rattle.lexical.specs.declared.XbmPart.{XbmPart}
-use Rattle.lexical.specs.declared.Passed.{Passed}
-use Rattle.lexical.specs.declared.Passed.TheVariants.{To, Refused as Stopped}
-use Rattle.lexical.specs.declared.ByteRead.{ByteRead}
-use Rattle.lexical.specs.declared.ByteRead.TheVariants.{Got, Refused as NotGot}
 use Rattle.lexical.specs.Lexical.{number, told, told_byte}
 use Rattle.body.specs.Data.{item, trailer, bytes_of}
 use Rattle.decoder.specs.Step.{foreign, called, placed_at, Step, step_of}
@@ -63,21 +60,21 @@ module _ (t : List ℕ) (d : XbmStreamDecoder) {f : Bool} (e : f ≡ foreign t d
   step-foreign h = rw (← e, h)
 
   module _ (h : f ≡ false) {s : ℕ} (g : s ≡ bytes_of d.width d.height) where
-    module _ (l : d.current_position < s) {r : ByteRead} (m : told_byte r ≡ item (eqb d.current_position 0) t d.location) where
-      pub step-byte : {b : ℕ} {q : TextLocation} {n : XbmStreamDecoder} → r ≡ Got b q → n ≡ placed_at d (d.current_position + 1) q → stepped (accepted (some b)) n ≡ step_of t d
+    module _ (l : d.current_position < s) {r : Answer (ℕ × TextLocation) ParseError} (m : told_byte r ≡ item (eqb d.current_position 0) t d.location) where
+      pub step-byte : {b : ℕ} {q : TextLocation} {n : XbmStreamDecoder} → r ≡ Ok (b, q) → n ≡ placed_at d (d.current_position + 1) q → stepped (accepted (some b)) n ≡ step_of t d
       unfolding step_of called ◌>>=◌ give
       step-byte k z = let o : ltb d.current_position (bytes_of d.width d.height) ≡ true = (rw g at (lt-ltb d.current_position s l)) in rw (z, ← e, h, o, ← m, k)
 
-      pub step-wrong : {part : XbmPart} {q : TextLocation} {n : XbmStreamDecoder} → r ≡ NotGot part q → n ≡ placed_at d (d.current_position + 1) q → stepped (refused (number part) q) n ≡ step_of t d
+      pub step-wrong : {x : ParseError} {n : XbmStreamDecoder} → r ≡ Err x → n ≡ placed_at d (d.current_position + 1) x.place → stepped (refused (number x.part) x.place) n ≡ step_of t d
       unfolding step_of called ◌>>=◌ give
       step-wrong k z = let o : ltb d.current_position (bytes_of d.width d.height) ≡ true = (rw g at (lt-ltb d.current_position s l)) in rw (z, ← e, h, o, ← m, k)
 
-    module _ (l : s ≤ d.current_position) {r : Passed} (m : told r ≡ trailer t d.location) where
-      pub step-done : {q : TextLocation} {n : XbmStreamDecoder} → r ≡ To q → n ≡ placed_at d d.current_position q → stepped (accepted none) n ≡ step_of t d
+    module _ (l : s ≤ d.current_position) {r : Answer TextLocation ParseError} (m : told r ≡ trailer t d.location) where
+      pub step-done : {q : TextLocation} {n : XbmStreamDecoder} → r ≡ Ok q → n ≡ placed_at d d.current_position q → stepped (accepted none) n ≡ step_of t d
       unfolding step_of called ◌>>=◌ give
       step-done k z = let o : ltb d.current_position (bytes_of d.width d.height) ≡ false = (rw g at (le-ltb d.current_position s l)) in rw (z, ← e, h, o, ← m, k)
 
-      pub step-bad : {part : XbmPart} {q : TextLocation} {n : XbmStreamDecoder} → r ≡ Stopped part q → n ≡ placed_at d d.current_position q → stepped (refused (number part) q) n ≡ step_of t d
+      pub step-bad : {x : ParseError} {n : XbmStreamDecoder} → r ≡ Err x → n ≡ placed_at d d.current_position x.place → stepped (refused (number x.part) x.place) n ≡ step_of t d
       unfolding step_of called ◌>>=◌ give
       step-bad k z = let o : ltb d.current_position (bytes_of d.width d.height) ≡ false = (rw g at (le-ltb d.current_position s l)) in rw (z, ← e, h, o, ← m, k)
 

@@ -6,12 +6,12 @@ ghost use Rattle.body.specs.Data.{bytes_of};
 ghost use Rattle.decoder.specs.Step.{foreign, placed_at, told_call, told_step, step_of};
 
 use body::{read_data_byte, read_trailer};
-use lexical::{ByteRead, Passed, XbmPart};
+use lexical::ParseError;
 use text::{TextLocation, is_foreign_place};
 
 // XBM stream decoder: the sides, how many data bytes were asked for, and the place in the text.
 #[repr(C)]
-#[derive(Clone, Copy)]
+#[derive(Clone, Copy, Debug, PartialEq, Eq)]
 pub struct XbmStreamDecoder {
     pub width: u32,
     pub height: u32,
@@ -19,43 +19,46 @@ pub struct XbmStreamDecoder {
     pub location: TextLocation,
 }
 
-// The next data byte; none left, the trailer being sound; or a refusal. Foreign: numbers that no header of this text gave.
-#[derive(Clone, Copy)]
-pub enum NextByte {
-    Byte(u8),
-    Done,
-    Refused(XbmPart, TextLocation),
+// Why there is no next data byte. Foreign: numbers that no header of this text gave.
+#[derive(Clone, Copy, Debug, PartialEq, Eq)]
+pub enum StreamError {
+    Parse(ParseError),
     Foreign,
 }
 
-#[derive(Clone, Copy)]
+// The next data byte, or none left, the trailer being sound; or a refusal. And the decoder after it.
+#[derive(Clone, Copy, Debug, PartialEq, Eq)]
 pub struct Stepped {
     pub decoder: XbmStreamDecoder,
-    pub answer: NextByte,
+    pub answer: Result<Option<u8>, StreamError>,
 }
 
 // How many data bytes a picture has.
 fn data_size(width: u32, height: u32) -> u64
     ensures { result ≡ bytes_of width height }
 {
-    (width as u64 + 7) / 8 * (height as u64)
+    (u64::from(width) + 7) / 8 * u64::from(height)
 }
 
 // Whether the decoder has numbers that no header of this text gave.
 fn is_foreign(text: &[u8], d: XbmStreamDecoder) -> bool
     ensures { result ≡ foreign text.now d }
 {
-    if d.width == 0 {
-        return true;
+    d.width == 0
+        || d.height == 0
+        || data_size(d.width, d.height) < d.current_position
+        || is_foreign_place(text, d.location)
+}
+
+// The decoder at another position and place.
+fn placed(d: XbmStreamDecoder, current_position: u64, location: TextLocation) -> XbmStreamDecoder
+    ensures { result ≡ placed_at d current_position location }
+{
+    XbmStreamDecoder {
+        current_position,
+        location,
+        ..d
     }
-    if d.height == 0 {
-        return true;
-    }
-    if data_size(d.width, d.height) < d.current_position {
-        return true;
-    }
-    let place = d.location;
-    is_foreign_place(text, place)
 }
 
 // The next byte of the raw image data, and the decoder after it. A data byte is counted before it is read.
@@ -65,53 +68,37 @@ pub fn step(text: &[u8], d: XbmStreamDecoder) -> Stepped
     if is_foreign(text, d) {
         return Stepped {
             decoder: d,
-            answer: NextByte::Foreign,
+            answer: Err(StreamError::Foreign),
         };
     }
     let at = d.location;
     let position = d.current_position;
     if position < data_size(d.width, d.height) {
-        match read_data_byte(text, at, position == 0) {
-            ByteRead::Got(b, next) => {
-                return Stepped {
-                    decoder: placed(d, position + 1, next),
-                    answer: NextByte::Byte(b),
-                };
-            }
-            ByteRead::Refused(part, p) => {
-                return Stepped {
-                    decoder: placed(d, position + 1, p),
-                    answer: NextByte::Refused(part, p),
-                };
-            }
-        }
+        return match read_data_byte(text, at, position == 0) {
+            Ok((b, next)) => Stepped {
+                decoder: placed(d, position + 1, next),
+                answer: Ok(Some(b)),
+            },
+            Err(e) => Stepped {
+                decoder: placed(d, position + 1, e.place),
+                answer: Err(StreamError::Parse(e)),
+            },
+        };
     }
     match read_trailer(text, at) {
-        Passed::To(p) => Stepped {
-            decoder: placed(d, position, p),
-            answer: NextByte::Done,
+        Ok(next) => Stepped {
+            decoder: placed(d, position, next),
+            answer: Ok(None),
         },
-        Passed::Refused(part, p) => Stepped {
-            decoder: placed(d, position, p),
-            answer: NextByte::Refused(part, p),
+        Err(e) => Stepped {
+            decoder: placed(d, position, e.place),
+            answer: Err(StreamError::Parse(e)),
         },
-    }
-}
-
-// The decoder at another position and place.
-fn placed(d: XbmStreamDecoder, position: u64, location: TextLocation) -> XbmStreamDecoder
-    ensures { result ≡ placed_at d position location }
-{
-    XbmStreamDecoder {
-        width: d.width,
-        height: d.height,
-        current_position: position,
-        location: location,
     }
 }
 
 // Read the next byte of the raw image data; the decoder that is lent goes on. One call by value, and its decoder stored.
-pub fn next_byte(text: &[u8], decoder: &mut XbmStreamDecoder) -> NextByte
+pub fn next_byte(text: &[u8], decoder: &mut XbmStreamDecoder) -> Result<Option<u8>, StreamError>
     ensures { told_call result decoder.new ≡ step_of text.now decoder.old }
 {
     let s = step(text, *decoder);
