@@ -11,22 +11,21 @@ use mathlib.Core.List.{List, [], ◌∷◌, ◌++◌, append_assoc, append-nil}
 use lib.ListN.{length, get_or, take, drop}
 use lib.Dec.{eqb, ltb}
 use borrow.Author.Tests.{eq-eqb, ne_eqb, lt-ltb, le-ltb}
+use Rattle.std.specs.Option.{SomeIff, unwrap_or}
+use Rattle.std.specs.Prelude.{Option as Answered, Some, None, Result as Answer, Ok, Err, IsErrAnd}
+use Rattle.std.proofs.lemmas.Result.{err_from_is_err_and}
 use Rattle.text.specs.declared.TextLocation.{TextLocation}
 use Rattle.text.specs.Rest.{Sound}
 use Rattle.text.proofs.PlaceLaws.{reach-sound}
 use Rattle.text.specs.Reader.{Result, ok, stop, bad, Reader, ◌>>=◌, then}
 use Rattle.text.specs.Outcome.{outcome}
 use Rattle.text.specs.Leaf.{give, need}
-use Rattle.lexical.specs.declared.XbmPart.{XbmPart}
-use Rattle.lexical.specs.declared.Passed.{Passed}
-use Rattle.lexical.specs.declared.Passed.TheVariants.{To, Refused as Stopped}
+use Rattle.lexical.specs.declared.ParseError.{ParseError}
 use Rattle.lexical.specs.Lexical.{number, told, told_byte}
-use Rattle.lexical.specs.declared.ByteRead.{ByteRead}
-use Rattle.lexical.specs.declared.ByteRead.TheVariants.{Got, Refused as Wrong}
 use Rattle.body.specs.Data.{Log, item, items, trailer, log_of, row_bytes}
 use Rattle.body.proofs.Data.{item-local, item-grows}
-use Rattle.rows.specs.declared.Rows.{Rows}
-use Rattle.rows.specs.declared.Rows.TheVariants.{Done, Refused, Mismatch}
+use Rattle.rows.specs.declared.RowsError.{RowsError}
+use Rattle.rows.specs.declared.RowsError.TheVariants.{Parse, DimensionMismatch}
 use Rattle.cells.specs.Cells.{cell, count}
 use Rattle.cells.specs.Stores.{dab, unpacked}
 use Rattle.rows.specs.Rows.{told_rows, ending, whole, Filled}
@@ -91,8 +90,12 @@ after_rows w h n = ending (eqb (n / w) h) (ltb (n / w) h) (eqb (count w h n) 0)
 -- ---- the whole rows of n cells
 
 -- none where w is 0
-pub rows_none : (n w : ℕ) → w ≡ 0 → 0 ≡ n / w
+rows_none : (n w : ℕ) → w ≡ 0 → 0 ≡ n / w
 rows_none n w h = rw (h, div-zero)
+
+pub rows-are : (n w : ℕ) (r : Answered ℕ) {k : ℕ} → SomeIff r (0 < w) (n / w) → k ≡ unwrap_or r 0 → k ≡ n / w
+rows-are n w None e u = u ∙ rows_none n w (omega (arith, e))
+rows-are n w (Some x) e u = u ∙ e.1
 
 -- so w is not 0 where there is one
 wide : (y n w : ℕ) → y < n / w → 0 < w
@@ -190,12 +193,12 @@ module _ (w h rows : ℕ) (t : List ℕ) (i₀ : TextLocation) (lent : List ℕ)
     told-first : y ≡ min (length lent / w) h → eqb (count w h (length lent)) 0 ≡ f
     told-first e = let z : count w h (length lent) ≡ length g.done = omega (arith, over e, g.within) in ap (λ (k : ℕ). eqb k 0) z ∙ sym g.fresh
 
-    filled : (r : Rows) (l : Log) → log_of (count w h (length lent)) true t i₀ ≡ l → l ≡ g.done → told_rows r ≡ outcome (λ l. tt) (whole w h (length lent) t i₀)
+    filled : (r : Answer (Unit {0}) RowsError) (l : Log) → log_of (count w h (length lent)) true t i₀ ≡ l → l ≡ g.done → told_rows r ≡ outcome (λ l. tt) (whole w h (length lent) t i₀)
         → Filled w h t i₀ lent p r
     filled r l a b e = record { answer = e; stored = rw (a, b) (painted-all w g.done p lent g.size g.cells) }
 
     -- the end of all whole rows
-    ended : (r : Rows) → y ≡ min (length lent / w) h → told_rows r ≡ outcome (λ l. tt) (after_rows w h (length lent) (values g.done) t i) → Filled w h t i₀ lent p r
+    ended : (r : Answer (Unit {0}) RowsError) → y ≡ min (length lent / w) h → told_rows r ≡ outcome (λ l. tt) (after_rows w h (length lent) (values g.done) t i) → Filled w h t i₀ lent p r
     ended r e k =
         filled r g.done
         (rw (over e) at g.log ∙ log-none f t i g.done)
@@ -204,7 +207,7 @@ module _ (w h rows : ℕ) (t : List ℕ) (i₀ : TextLocation) (lent : List ℕ)
 
     -- ---- a data byte was read, and a row is left for it
 
-    module _ {r : ByteRead} {v : ℕ} {q : TextLocation} (e : told_byte r ≡ item f t i) (m : r ≡ Got v q) (hy : y < h) (hr : y < rows) where
+    module _ {r : Answer (ℕ × TextLocation) ParseError} {v : ℕ} {q : TextLocation} (e : told_byte r ≡ item f t i) (m : r ≡ Ok (v, q)) (hy : y < h) (hr : y < rows) where
       got : ok v q ≡ item f t i
       got = rw m at e
 
@@ -266,29 +269,29 @@ module _ (w h rows : ℕ) (t : List ℕ) (i₀ : TextLocation) (lent : List ℕ)
       fewer-next l = omega (arith, less, g.long, g.even, in_row hr, suc-mul y (row_bytes w))
 
     -- a data byte was read, and no row is left for it
-    pub going-few : {r : ByteRead} {v : ℕ} {q : TextLocation} → told_byte r ≡ item f t i → r ≡ Got v q → y < h → rows ≤ y → Filled w h t i₀ lent p Mismatch
+    pub going-few : {r : Answer (ℕ × TextLocation) ParseError} {v : ℕ} {q : TextLocation} → told_byte r ≡ item f t i → r ≡ Ok (v, q) → y < h → rows ≤ y → Filled w h t i₀ lent p (Err DimensionMismatch)
     unfolding ◌>>=◌ need
     going-few {r} {v} {q} e m hy hr =
         let a : y ≤ min (length lent / w) h = g.above in
         let k : rows ≡ length lent / w = g.whole-rows in
         let o : ok v q ≡ item f t i = rw m at e in
-        ended Mismatch (omega arith) (rw (ne_eqb (length lent / w) h (λ z. omega arith), lt-ltb (length lent / w) h (omega arith), told-first (omega arith), ← o))
+        ended (Err DimensionMismatch) (omega arith) (rw (ne_eqb (length lent / w) h (λ z. omega arith), lt-ltb (length lent / w) h (omega arith), told-first (omega arith), ← o))
 
     -- no data byte
-    pub going-wrong : {r : ByteRead} {part : XbmPart} {q : TextLocation} → told_byte r ≡ item f t i → r ≡ Wrong part q → y < h → Filled w h t i₀ lent p (Refused part q)
+    pub going-wrong : {r : Answer (ℕ × TextLocation) ParseError} {x : ParseError} {z : Answer (Unit {0}) RowsError} → told_byte r ≡ item f t i → r ≡ Err x → z ≡ Err (Parse x) → y < h → Filled w h t i₀ lent p z
     unfolding ◌>>=◌
-    going-wrong {r} {part} {q} e m hy = go (dec_lt y (length lent / w))
+    going-wrong {r} {x} e m u hy = rw u (go (dec_lt y (length lent / w)))
       where
-        o : stop (number part) q ≡ item f t i
+        o : stop (number x.part) x.place ≡ item f t i
         o = rw m at e
 
-        go : Dec (y < length lent / w) → Filled w h t i₀ lent p (Refused part q)
+        go : Dec (y < length lent / w) → Filled w h t i₀ lent p (Err (Parse x))
         go (no n) =
             let a : y ≤ min (length lent / w) h = g.above in
-            ended (Refused part q) (omega arith) (rw (ne_eqb (length lent / w) h (λ z. omega arith), lt-ltb (length lent / w) h (omega arith), told-first (omega arith), ← o))
+            ended (Err (Parse x)) (omega arith) (rw (ne_eqb (length lent / w) h (λ z. omega arith), lt-ltb (length lent / w) h (omega arith), told-first (omega arith), ← o))
         go (yes n) =
             let k : count w h (length lent) - length g.done ≡ suc (count w h (length lent) - suc (length g.done)) = omega (arith, below (omega arith), g.long, g.even, in_row (omega (arith, g.whole-rows))) in
-            filled (Refused part q) (g.done ++ [])
+            filled (Err (Parse x)) (g.done ++ [])
             (rw (log-stop f t i (count w h (length lent) - length g.done) o) at g.log)
             (append-nil g.done)
             (ap (outcome (λ l. tt)) (sym (rest-stop f t i (after_rows w h (length lent)) (values g.done) (count w h (length lent) - suc (length g.done)) o) ∙ (rw k at g.left)))
@@ -297,26 +300,32 @@ module _ (w h rows : ℕ) (t : List ℕ) (i₀ : TextLocation) (lent : List ℕ)
     last : h ≤ y → y ≡ min (length lent / w) h
     last l = omega (arith, g.above)
 
-    module _ {m : Passed} (e : told m ≡ trailer t i) (hy : h ≤ y) where
-      pub going_done : {q : TextLocation} → m ≡ To q → rows ≡ h → Filled w h t i₀ lent p Done
+    module _ {m : Answer TextLocation ParseError} (e : told m ≡ trailer t i) (hy : h ≤ y) where
+      pub going_done : {q : TextLocation} → m ≡ Ok q → rows ≡ h → Filled w h t i₀ lent p (Ok tt)
       unfolding ◌>>=◌ give
       going_done {q} k n =
           let o : ok tt q ≡ trailer t i = rw k at e in
-          ended Done (last hy) (rw (eq-eqb (length lent / w) h (sym g.whole-rows ∙ n), ← o))
+          ended (Ok tt) (last hy) (rw (eq-eqb (length lent / w) h (sym g.whole-rows ∙ n), ← o))
 
-      pub going-many : {q : TextLocation} → m ≡ To q → (rows ≡ h → ⊥) → Filled w h t i₀ lent p Mismatch
+      pub going-many : {q : TextLocation} → m ≡ Ok q → (rows ≡ h → ⊥) → Filled w h t i₀ lent p (Err DimensionMismatch)
       unfolding ◌>>=◌ need
       going-many {q} k n =
           let o : ok tt q ≡ trailer t i = rw k at e in
-          ended Mismatch (last hy) (rw (ne_eqb (length lent / w) h (λ z. n (g.whole-rows ∙ z)), le-ltb (length lent / w) h (omega (arith, last hy)), ← o))
+          ended (Err DimensionMismatch) (last hy) (rw (ne_eqb (length lent / w) h (λ z. n (g.whole-rows ∙ z)), le-ltb (length lent / w) h (omega (arith, last hy)), ← o))
 
-      pub going-bad : {part : XbmPart} {q : TextLocation} → m ≡ Stopped part q → Filled w h t i₀ lent p (Refused part q)
+      pub going-bad : {x : ParseError} {z : Answer (Unit {0}) RowsError} → m ≡ Err x → z ≡ Err (Parse x) → Filled w h t i₀ lent p z
       unfolding ◌>>=◌
-      going-bad {part} {q} k = go (eqb (length lent / w) h) refl
+      going-bad {x} k v = rw v (go (eqb (length lent / w) h) refl)
         where
-          o : stop (number part) q ≡ trailer t i
+          o : stop (number x.part) x.place ≡ trailer t i
           o = rw k at e
 
-          go : (b : Bool) → eqb (length lent / w) h ≡ b → Filled w h t i₀ lent p (Refused part q)
-          go true u = ended (Refused part q) (last hy) (rw (u, ← o))
-          go false u = ended (Refused part q) (last hy) (rw (u, le-ltb (length lent / w) h (omega (arith, last hy)), ← o))
+          go : (b : Bool) → eqb (length lent / w) h ≡ b → Filled w h t i₀ lent p (Err (Parse x))
+          go true u = ended (Err (Parse x)) (last hy) (rw (u, ← o))
+          go false u = ended (Err (Parse x)) (last hy) (rw (u, le-ltb (length lent / w) h (omega (arith, last hy)), ← o))
+
+-- what the exit of a `?` hands back
+pub ends-as : {r : Answer (Unit {0}) RowsError} {x : RowsError} → IsErrAnd r (λ e. e ≡ x) → r ≡ Err x
+ends-as {r} h = let p = err_from_is_err_and r h in p.1 ∙ ap (λ e. Err e) p.2
+
+pub ruleset going_laws = (rows-are, going_start, going-sound, going-few, left-fits, start_fits, eight_fits, eight-inside, rest-fits, rest-inside, next_fits, fewer-more, going_more, fewer-next, going_next, going-wrong, going_done, going-many, going-bad)
