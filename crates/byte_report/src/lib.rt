@@ -20,7 +20,7 @@ fn report_of(place: TextLocation, data: u64) -> [u64; 10]
     [byte, line, column, 0, 0, 0, 0, data, start, 0]
 }
 
-// An answer and the decoder after it, as numbers: 256, which no byte is, where none is left.
+// An answer and the decoder after it, as numbers, since C is told them: 256, which no byte is, where none is left.
 pub fn tell(
     answer: Result<Option<u8>, StreamError>,
     decoder: XbmStreamDecoder,

@@ -6,7 +6,7 @@ ghost use Rattle.print.specs.Puts.{Puts};
 
 use itoa::Integer;
 
-// A lent buffer, and where the next byte goes.
+// A lent buffer, and where the next byte goes. std's `write!` into one says what is left there only where it succeeds.
 #[derive(Drop)]
 pub struct Buffer<'a> {
     pub bytes: &'a mut [u8],
