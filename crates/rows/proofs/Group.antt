@@ -1,48 +1,65 @@
 -- `, 0xHH` read at once.
 use Prim.Native.Nat.{ℕ, ◌+◌, ◌*◌, ◌≤◌, ◌<◌, ◌^◌}
 use native.Mathlib.Omega.{arith}
-use mir.Syntax.{w64}
+use mir.Syntax.{w8, w32, w64}
 use mir.Val.{Fits}
-use borrow.Author.Tests.{lt-ltb, leb-true, eqb-true, not-false}
-use mathlib.Core.Path.{◌≡◌, refl, sym, ◌∙◌}
+use borrow.Author.Tests.{lt-ltb, le-ltb, ltb-true, leb-true, eqb-true, not-false}
+use mathlib.Core.Path.{◌≡◌, refl, sym, ap, ◌∙◌}
 use mathlib.Core.List.{List, [], ◌∷◌}
 use mathlib.Core.Bool.{Bool, true, false, not}
 use lib.ListN.{length, drop, get_or}
 use native.Mathlib.Numerals.{add-one}
 use lib.Seq.{drop-cons}
-use lib.Dec.{eqb}
+use lib.Dec.{eqb, ltb}
+use Rattle.std.specs.Prelude.{Option as Answered, Some, None, Result as Answer, Err}
+use Rattle.std.specs.Int.{from_le_bytes}
 use Rattle.text.specs.declared.TextLocation.{TextLocation}
-use Rattle.text.specs.Place.{byte_of, reaches_to, along_line, rest, after, past}
+use Rattle.text.specs.Place.{pick, byte_of, reaches_to, along_line, rest, after, past}
 use Rattle.text.specs.Rest.{Sound}
 use Rattle.text.proofs.Rest.{after-rest}
 use Rattle.text.proofs.PlaceLaws.{sound-rest, along-past}
-use Rattle.text.specs.Reader.{Result, ok, stop, ◌>>=◌}
+use Rattle.text.specs.Reader.{Result, ok, ◌>>=◌}
 use Rattle.text.specs.Leaf.{one, run, give}
-use Rattle.lexical.specs.Lexical.{is_loose, is_blank, skip, byte, is, fixed, number, told_byte}
-use Rattle.lexical.specs.declared.ByteRead.{ByteRead}
-use Rattle.lexical.specs.declared.ByteRead.TheVariants.{Got, Refused as NotGot}
-use Rattle.lexical.specs.declared.XbmPart.{XbmPart}
-use Rattle.hexadecimal.specs.Hex.{hex_of, hexv, hex_digit, hex_start, hex_digits, hex_unit, is_mark}
+use Rattle.lexical.specs.Lexical.{is_loose, is_blank, skip, byte, is, fixed, told_byte}
+use Rattle.lexical.specs.declared.ParseError.{ParseError}
+use Rattle.hexadecimal.specs.Hex.{hex_of, value_of, hexv, hex_digit, hex_start, hex_digits, hex_unit, is_mark}
 use Rattle.body.specs.Data.{item}
-use Rattle.rows.specs.declared.Quick.{Quick}
-use Rattle.rows.specs.declared.Quick.TheVariants.{Hit, Miss}
-use Rattle.rows.specs.Quick.{Four, Meets}
+use Rattle.hexadecimal.proofs.Hex.{told-got}
+use Rattle.rows.specs.Quick.{Meets}
 
-pub miss : (d : Result ℕ) → Meets Miss d
-miss d = record { hit = λ v q e. let z : ◌≡◌ {A = ℕ} 0 1 = cc in absurd (omega arith) }
+pub miss : {r : Answered (ℕ × TextLocation)} (d : Result ℕ) → r ≡ None → Meets r d
+miss d h = record { hit = λ v q e. cc }
 
-pub meets : {d : Result ℕ} {r : Quick} {v : ℕ} {q : TextLocation} → Meets r d → r ≡ Hit v q → ok v q ≡ d
+pub meets : {d : Result ℕ} {r : Answered (ℕ × TextLocation)} {v : ℕ} {q : TextLocation} → Meets r d → r ≡ Some (v, q) → ok v q ≡ d
 meets {v = v} {q = q} k e = k.hit v q e
 
--- a plain answer handed on
-module _ {d : Result ℕ} {m : ByteRead} (e : told_byte m ≡ d) where
-  pub again-got : {v : ℕ} {q : TextLocation} → m ≡ Got v q → ok v q ≡ d
-  again-got h = rw h at e
+-- a plain refusal handed on
+pub again-refused : {d : Result ℕ} {m r : Answer (ℕ × TextLocation) ParseError} {x : ParseError} → told_byte m ≡ d → m ≡ Err x → r ≡ Err x → told_byte r ≡ d
+again-refused e h k = rw k (rw h at e)
 
-  pub again-refused : {part : XbmPart} {q : TextLocation} → m ≡ NotGot part q → stop (number part) q ≡ d
-  again-refused h = rw h at e
+pub ruleset next_laws = (meets, told-got, again-refused)
 
-pub ruleset next_laws = (meets, again-got, again-refused)
+-- a digit by the table
+pub digit-there : (b : ℕ) {v : ℕ} → v ≡ hex_of b → v < 16 → Some v ≡ value_of b
+digit-there b {v} e h = rw (← e, lt-ltb v 16 h)
+
+pub digit-none : (b : ℕ) {v : ℕ} → v ≡ hex_of b → 16 ≤ v → None ≡ value_of b
+digit-none b {v} e h = rw (← e, le-ltb v 16 h)
+
+-- what a digit is
+digit-is : (b : ℕ) {v : ℕ} → Some v ≡ value_of b → (v ≡ hex_of b) × (hex_of b < 16)
+digit-is b {v} = go (ltb (hex_of b) 16) refl
+  where
+    go : (w : Bool) → ltb (hex_of b) 16 ≡ w → Some v ≡ pick w (Some (hex_of b)) None → (v ≡ hex_of b) × (hex_of b < 16)
+    go true u e = (cc, ltb-true (hex_of b) 16 u)
+    go false u e = cc
+
+some-pair : {x y : ℕ × TextLocation} → ◌≡◌ {A = Answered (ℕ × TextLocation)} (Some x) (Some y) → x ≡ y
+some-pair e = cc
+
+-- four bytes as one number, the first the lowest
+mark-is : (a b c d : ℕ) → a < 256 → b < 256 → c < 256 → d < 256 → from_le_bytes w32 (a ∷ b ∷ c ∷ d ∷ []) ≡ 2016419884 → (a ≡ 44) × (b ≡ 32) × (c ≡ 48) × (d ≡ 120)
+mark-is a b c d ha hb hc hd e = (omega arith, omega arith, omega arith, omega arith)
 
 -- what a reader does where the next byte is known
 module _ (t : List ℕ) (i : TextLocation) (b : ℕ) (l : List ℕ) (e : rest t i ≡ b ∷ l) where
@@ -128,25 +145,19 @@ module _ (t : List ℕ) (p : TextLocation) {r : Bool} (e : r ≡ reaches_to t p 
   pub six-fits : (k : ℕ) → k < 6 → length t * 1 < 2 ^ 63 → Fits w64 (byte_of p + k)
   six-fits k l m = record { fits = omega (arith, inside) }
 
-  pub four-inside : byte_of p + 4 ≤ length t
-  four-inside = omega (arith, inside)
-
   -- the four bytes before the digits are `, 0x`
-  pub quick-hit : {f : Bool} {r hi lo : ℕ} {q : TextLocation} → (f ≡ false → Sound p) → f ≡ false → length t * 1 < 2 ^ 63
-      → Four t (byte_of p) r → r ≡ 2016419884
-      → hi ≡ hex_of (get_or t (byte_of p + 4) 0) → hi < 16 → lo ≡ hex_of (get_or t (byte_of p + 5) 0) → lo < 16 → q ≡ along_line p 6
-      → Meets (Hit (hi * 16 + lo) q) (item f t p)
-  quick-hit {f} {r} {hi} {lo} {q} sound hf room four same eh hh el hl to =
+  pub quick-hit : {f : Bool} {r hi lo : ℕ} {q : TextLocation} {ah al : Answered ℕ} → (f ≡ false → Sound p) → f ≡ false → length t * 1 < 2 ^ 63 → ((k : ℕ) → Fits w8 (get_or t k 0))
+      → r ≡ from_le_bytes w32 (get_or t (byte_of p) 0 ∷ get_or t (byte_of p + 1) 0 ∷ get_or t (byte_of p + 2) 0 ∷ get_or t (byte_of p + 3) 0 ∷ []) → r ≡ 2016419884
+      → ah ≡ value_of (get_or t (byte_of p + 4) 0) → ah ≡ Some hi → al ≡ value_of (get_or t (byte_of p + 5) 0) → al ≡ Some lo → q ≡ along_line p 6
+      → Meets (Some (hi * 16 + lo, q)) (item f t p)
+  quick-hit {f} {r} {hi} {lo} {q} sound hf room bytes four same eh hh el hl to =
       let i : byte_of p + 6 ≤ length t = inside in
-      let c0 : get_or t (byte_of p) 0 ≡ 44 = omega (arith, four.first) in
-      let c1 : get_or t (byte_of p + 1) 0 ≡ 32 = omega (arith, four.second) in
-      let c2 : get_or t (byte_of p + 2) 0 ≡ 48 = omega (arith, four.third) in
-      let c3 : get_or t (byte_of p + 3) 0 ≡ 120 = omega (arith, four.fourth) in
-      let u : hex_of (get_or t (byte_of p + 4) 0) < 16 = rw (← eh) hh in
-      let w : hex_of (get_or t (byte_of p + 5) 0) < 16 = rw (← el) hl in
+      let (c0, c1, c2, c3) = mark-is (get_or t (byte_of p) 0) (get_or t (byte_of p + 1) 0) (get_or t (byte_of p + 2) 0) (get_or t (byte_of p + 3) 0) (bytes _).fits (bytes _).fits (bytes _).fits (bytes _).fits (sym four ∙ same) in
+      let (vh, u) = digit-is (get_or t (byte_of p + 4) 0) (sym hh ∙ eh) in
+      let (vl, w) = digit-is (get_or t (byte_of p + 5) 0) (sym hl ∙ el) in
       let d : ok (hi * 16 + lo) q ≡ item f t p
-      = rw (hf, eh, el, to, six t p (get_or t (byte_of p + 4) 0) (get_or t (byte_of p + 5) 0) u w (sound hf) (omega arith))
+      = rw (hf, vh, vl, to, six t p (get_or t (byte_of p + 4) 0) (get_or t (byte_of p + 5) 0) u w (sound hf) (omega arith))
       (sym (six-read t p (get_or t (byte_of p + 4) 0) (get_or t (byte_of p + 5) 0) (drop (byte_of p + 6) t) (rw (← c0, ← c1, ← c2, ← c3) (rest-six (sound hf))) u w)) in
-      record { hit = λ v p' y. let a : v ≡ hi * 16 + lo = cc in let b : p' ≡ q = cc in rw (a, b) d }
+      record { hit = λ v p' y. ap (λ (x : ℕ × TextLocation). ok x.0 x.1) (sym (some-pair y)) ∙ d }
 
-pub ruleset quick_laws = (miss, six-inside, six-fits, four-inside, quick-hit)
+pub ruleset quick_laws = (miss, six-inside, six-fits, quick-hit)

@@ -1,5 +1,5 @@
 -- The rows of a picture, read into a buffer of n cells.
-use Rattle.std.specs.Prelude.{ℕ, ◌/◌, ◌≡◌, List, Bool, true, false, length, eqb, ltb}
+use Rattle.std.specs.Prelude.{ℕ, ◌/◌, ◌≡◌, List, Bool, true, false, length, eqb, ltb, Result as Answer, Ok, Err}
 use Rattle.std.proofs.Math.Option.{none}
 use Rattle.text.specs.declared.TextLocation.{TextLocation}
 use Rattle.text.specs.Reader.{Reader, ◌>>=◌, ◌>>◌}
@@ -8,8 +8,8 @@ use Rattle.text.specs.Outcome.{Outcome, accepted, refused, unplaced, outcome}
 use Rattle.lexical.specs.Lexical.{number}
 use Rattle.body.specs.Data.{item, items, trailer, log_of}
 use Rattle.cells.specs.Cells.{painted, count}
-use Rattle.rows.specs.declared.Rows.{Rows}
-use Rattle.rows.specs.declared.Rows.TheVariants.{Done, Refused, Mismatch}
+use Rattle.rows.specs.declared.RowsError.{RowsError}
+use Rattle.rows.specs.declared.RowsError.TheVariants.{Parse, DimensionMismatch}
 
 -- the buffer's whole rows are not the picture's
 abbrev pub mismatch : Reader (List ℕ)
@@ -28,12 +28,12 @@ whole w h n = items (count w h n) true >>= ending (eqb (n / w) h) (ltb (n / w) h
 
 -- ---- what the code answers
 
-abbrev pub told_rows : Rows → Outcome (Unit {0})
-told_rows Done = accepted tt
-told_rows (Refused part p) = refused (number part) p
-told_rows Mismatch = unplaced 31
+abbrev pub told_rows : Answer (Unit {0}) RowsError → Outcome (Unit {0})
+told_rows (Ok u) = accepted tt
+told_rows (Err (Parse e)) = refused (number e.part) e.place
+told_rows (Err DimensionMismatch) = unplaced 31
 
 -- reading the rows of a picture w wide and h high: the answer, and what the buffer holds later
-pub record Filled (w h : ℕ) (t : List ℕ) (i : TextLocation) (lent later : List ℕ) (r : Rows) : Type 0 where
+pub record Filled (w h : ℕ) (t : List ℕ) (i : TextLocation) (lent later : List ℕ) (r : Answer (Unit {0}) RowsError) : Type 0 where
   pub answer : told_rows r ≡ outcome (λ l. tt) (whole w h (length lent) t i)
   pub stored : later ≡ painted w (log_of (count w h (length lent)) true t i) lent
