@@ -66,7 +66,7 @@ fn quick_byte(
 }
 
 // The next data byte: the common form at once, anything else by the plain reader. The plain answer is taken apart and made again, so that
-// it shares no memory with the quick one, which then stays in registers.
+// it shares no memory with the quick one, which then stays in registers: handed on as it is, decoding took two to three times as long.
 fn next_data(
     text: &[u8],
     place: TextLocation,
