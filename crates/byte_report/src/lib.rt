@@ -5,47 +5,37 @@ ghost use Rattle.std.specs.Prelude.{◌≡◌};
 ghost use Rattle.decoder.specs.Step.{told_next};
 ghost use Rattle.byte_report.specs.Next.{reported, next_number, next_report};
 
-use decoder::{NextByte, XbmStreamDecoder};
+use decoder::{StreamError, XbmStreamDecoder};
 use lexical::part_number;
 use text::{TextLocation, no_place};
-
-fn wide(b: u8) -> u64
-    ensures { result ≡ b }
-{
-    b as u64
-}
 
 // A report of a place and a data byte.
 fn report_of(place: TextLocation, data: u64) -> [u64; 10]
     ensures { result ≡ reported place «data» }
 {
-    let byte = place.byte.0;
-    let line = place.line.0;
-    let column = place.column.0;
-    let start = place.start.0;
-    [byte, line, column, 0, 0, 0, 0, data, start, 0]
+    let TextLocation {
+        byte,
+        line,
+        column,
+        start,
+    } = place;
+    [byte.0, line.0, column.0, 0, 0, 0, 0, data, start.0, 0]
 }
 
-// An answer and the decoder after it, as numbers.
-pub fn tell(answer: NextByte, decoder: XbmStreamDecoder, report: &mut [u64; 10]) -> u32
+// An answer and the decoder after it, as numbers. 256, which no byte is, tells that none is left.
+pub fn tell(
+    answer: Result<Option<u8>, StreamError>,
+    decoder: XbmStreamDecoder,
+    report: &mut [u64; 10],
+) -> u32
     ensures { (result ≡ next_number (told_next answer)) × (report.new ≡ next_report (told_next answer) decoder) }
 {
-    match answer {
-        NextByte::Byte(b) => {
-            *report = report_of(decoder.location, wide(b));
-            0
-        }
-        NextByte::Done => {
-            *report = report_of(decoder.location, 256);
-            0
-        }
-        NextByte::Refused(part, place) => {
-            *report = report_of(place, 0);
-            part_number(part)
-        }
-        NextByte::Foreign => {
-            *report = report_of(no_place(), 0);
-            9
-        }
-    }
+    let (number, place, byte) = match answer {
+        Ok(Some(b)) => (0, decoder.location, u64::from(b)),
+        Ok(None) => (0, decoder.location, 256),
+        Err(StreamError::Parse(e)) => (part_number(e.part), e.place, 0),
+        Err(StreamError::Foreign) => (9, no_place(), 0),
+    };
+    *report = report_of(place, byte);
+    number
 }
