@@ -13,14 +13,16 @@ use text::{TextLocation, no_place};
 fn report_of(place: TextLocation, data: u64) -> [u64; 10]
     ensures { result ≡ reported place «data» }
 {
-    let byte = place.byte.0;
-    let line = place.line.0;
-    let column = place.column.0;
-    let start = place.start.0;
-    [byte, line, column, 0, 0, 0, 0, data, start, 0]
+    let TextLocation {
+        byte,
+        line,
+        column,
+        start,
+    } = place;
+    [byte.0, line.0, column.0, 0, 0, 0, 0, data, start.0, 0]
 }
 
-// An answer and the decoder after it, as numbers, since C is told them: 256, which no byte is, where none is left.
+// An answer and the decoder after it, as numbers. 256, which no byte is, tells that none is left.
 pub fn tell(
     answer: Result<Option<u8>, StreamError>,
     decoder: XbmStreamDecoder,
@@ -28,18 +30,12 @@ pub fn tell(
 ) -> u32
     ensures { (result ≡ next_number (told_next answer)) × (report.new ≡ next_report (told_next answer) decoder) }
 {
-    match answer {
-        Ok(byte) => {
-            *report = report_of(decoder.location, byte.map_or(256, u64::from));
-            0
-        }
-        Err(StreamError::Parse(e)) => {
-            *report = report_of(e.place, 0);
-            part_number(e.part)
-        }
-        Err(StreamError::Foreign) => {
-            *report = report_of(no_place(), 0);
-            9
-        }
-    }
+    let (number, place, byte) = match answer {
+        Ok(Some(b)) => (0, decoder.location, u64::from(b)),
+        Ok(None) => (0, decoder.location, 256),
+        Err(StreamError::Parse(e)) => (part_number(e.part), e.place, 0),
+        Err(StreamError::Foreign) => (9, no_place(), 0),
+    };
+    *report = report_of(place, byte);
+    number
 }

@@ -1,11 +1,12 @@
 -- One call for the next data byte: the answer, and the decoder after it.
-use Rattle.std.specs.Prelude.{ℕ, ◌+◌, Bool, true, List, eqb, ltb, Option as Left, Some, None, Result as Answer, Ok, Err}
+use Rattle.std.specs.Prelude.{ℕ, ◌+◌, Bool, true, List, eqb, ltb, Option as Given, Some, None, Result as Answer, Ok, Err}
 use Rattle.std.proofs.Math.Option.{Option, none, some}
 use Rattle.text.specs.declared.TextLocation.{TextLocation}
 use Rattle.text.specs.Place.{pick, is_foreign}
-use Rattle.text.specs.Reader.{end_of, Reader, ◌>>=◌, ◌>>◌}
+use Rattle.text.specs.Reader.{Result, ok, stop, end_of, Reader, ◌>>=◌, ◌>>◌}
 use Rattle.text.specs.Leaf.{give}
 use Rattle.text.specs.Outcome.{Outcome, accepted, refused, unplaced, outcome}
+use Rattle.lexical.specs.declared.ParseError.{ParseError}
 use Rattle.lexical.specs.Lexical.{number}
 use Rattle.body.specs.Data.{item, trailer, bytes_of}
 use Rattle.decoder.specs.declared.XbmStreamDecoder.{XbmStreamDecoder}
@@ -47,18 +48,24 @@ step_of t d = record {
   decoder = pick (foreign t d) d (placed_at d (spent d) (end_of (called d t d.location)));
 }
 
--- an answer of the code: the byte, none left, or the refusal's number and place
-abbrev pub left_of : Left ℕ → Option ℕ
-left_of (Some b) = some b
-left_of None = none
+-- a data byte of the code, or none
+abbrev pub byte_given : Given ℕ → Option ℕ
+byte_given (Some b) = some b
+byte_given None = none
 
-abbrev pub told_next : Answer (Left ℕ) StreamError → Outcome (Option ℕ)
-told_next (Ok b) = accepted (left_of b)
+-- what the code reads at a decoder's place
+abbrev pub told_called : Answer (Given ℕ × TextLocation) ParseError → Result (Option ℕ)
+told_called (Ok r) = ok (byte_given r.0) r.1
+told_called (Err e) = stop (number e.part) e.place
+
+-- an answer of the code: the byte, none left, or the refusal's number and place
+abbrev pub told_next : Answer (Given ℕ) StreamError → Outcome (Option ℕ)
+told_next (Ok b) = accepted (byte_given b)
 told_next (Err (Parse e)) = refused (number e.part) e.place
 told_next (Err Foreign) = unplaced 9
 
 -- an answer, with the decoder after it
-abbrev pub told_call : Answer (Left ℕ) StreamError → XbmStreamDecoder → Step
+abbrev pub told_call : Answer (Given ℕ) StreamError → XbmStreamDecoder → Step
 told_call a d = record { answer = told_next a; decoder = d }
 
 abbrev pub told_step : Stepped → Step

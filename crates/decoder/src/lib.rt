@@ -3,7 +3,8 @@
 
 ghost use Rattle.std.specs.Prelude.{◌≡◌};
 ghost use Rattle.body.specs.Data.{bytes_of};
-ghost use Rattle.decoder.specs.Step.{foreign, placed_at, told_call, told_step, step_of};
+ghost use Rattle.decoder.specs.declared.StreamError.TheVariants.{Parse};
+ghost use Rattle.decoder.specs.Step.{foreign, more, called, told_called, told_call, told_step, step_of};
 
 use body::{read_data_byte, read_trailer};
 use lexical::ParseError;
@@ -11,7 +12,7 @@ use text::{TextLocation, is_foreign_place};
 
 // XBM stream decoder: the sides, how many data bytes were asked for, and the place in the text.
 #[repr(C)]
-#[derive(Clone, Copy, Debug, PartialEq, Eq)]
+#[derive(Clone, Copy)]
 pub struct XbmStreamDecoder {
     pub width: u32,
     pub height: u32,
@@ -19,15 +20,23 @@ pub struct XbmStreamDecoder {
     pub location: TextLocation,
 }
 
-// Why there is no next data byte. Foreign: numbers that no header of this text gave.
+// What refuses a call: a rule broken at a place, or a decoder with numbers that no header of this text gave.
 #[derive(Clone, Copy, Debug, PartialEq, Eq)]
 pub enum StreamError {
     Parse(ParseError),
     Foreign,
 }
 
-// The next data byte, or none left, the trailer being sound; or a refusal. And the decoder after it.
-#[derive(Clone, Copy, Debug, PartialEq, Eq)]
+impl From<ParseError> for StreamError {
+    ghost from_gives = { λ x e. e ≡ Parse x };
+
+    fn from(e: ParseError) -> StreamError {
+        StreamError::Parse(e)
+    }
+}
+
+// The next data byte, or none where none is left and the trailer is sound; and the decoder after it.
+#[derive(Clone, Copy)]
 pub struct Stepped {
     pub decoder: XbmStreamDecoder,
     pub answer: Result<Option<u8>, StreamError>,
@@ -37,31 +46,39 @@ pub struct Stepped {
 fn data_size(width: u32, height: u32) -> u64
     ensures { result ≡ bytes_of width height }
 {
-    (u64::from(width) + 7) / 8 * u64::from(height)
+    u64::from(width).div_ceil(8) * u64::from(height)
+}
+
+// Whether a data byte is left.
+fn has_more(d: XbmStreamDecoder) -> bool
+    ensures { result ≡ more d }
+{
+    d.current_position < data_size(d.width, d.height)
 }
 
 // Whether the decoder has numbers that no header of this text gave.
 fn is_foreign(text: &[u8], d: XbmStreamDecoder) -> bool
     ensures { result ≡ foreign text.now d }
 {
-    d.width == 0
-        || d.height == 0
-        || data_size(d.width, d.height) < d.current_position
-        || is_foreign_place(text, d.location)
-}
-
-// The decoder at another position and place.
-fn placed(d: XbmStreamDecoder, current_position: u64, location: TextLocation) -> XbmStreamDecoder
-    ensures { result ≡ placed_at d current_position location }
-{
-    XbmStreamDecoder {
-        current_position,
-        location,
-        ..d
+    if d.width == 0 || d.height == 0 {
+        return true;
     }
+    data_size(d.width, d.height) < d.current_position || is_foreign_place(text, d.location)
 }
 
-// The next byte of the raw image data, and the decoder after it. A data byte is counted before it is read.
+// What is read at the decoder's place: the next data byte, or after the last the trailer.
+fn read_next(text: &[u8], d: XbmStreamDecoder) -> Result<(Option<u8>, TextLocation), ParseError>
+    ensures { told_called result ≡ called d text.now d.location }
+{
+    if has_more(d) {
+        let (b, next) = read_data_byte(text, d.location, d.current_position == 0)?;
+        return Ok((Some(b), next));
+    }
+    let end = read_trailer(text, d.location)?;
+    Ok((None, end))
+}
+
+// The next byte of the raw image data, and the decoder after it. A data byte counts as asked for also where it is refused.
 pub fn step(text: &[u8], d: XbmStreamDecoder) -> Stepped
     ensures { told_step result ≡ step_of text.now d }
 {
@@ -71,29 +88,18 @@ pub fn step(text: &[u8], d: XbmStreamDecoder) -> Stepped
             answer: Err(StreamError::Foreign),
         };
     }
-    let at = d.location;
-    let position = d.current_position;
-    if position < data_size(d.width, d.height) {
-        return match read_data_byte(text, at, position == 0) {
-            Ok((b, next)) => Stepped {
-                decoder: placed(d, position + 1, next),
-                answer: Ok(Some(b)),
-            },
-            Err(e) => Stepped {
-                decoder: placed(d, position + 1, e.place),
-                answer: Err(StreamError::Parse(e)),
-            },
-        };
-    }
-    match read_trailer(text, at) {
-        Ok(next) => Stepped {
-            decoder: placed(d, position, next),
-            answer: Ok(None),
+    let (answer, location) = match read_next(text, d) {
+        Ok((b, next)) => (Ok(b), next),
+        Err(e) => (Err(e.into()), e.place),
+    };
+    let current_position = d.current_position + u64::from(has_more(d));
+    Stepped {
+        decoder: XbmStreamDecoder {
+            current_position,
+            location,
+            ..d
         },
-        Err(e) => Stepped {
-            decoder: placed(d, position, e.place),
-            answer: Err(StreamError::Parse(e)),
-        },
+        answer,
     }
 }
 

@@ -1,16 +1,14 @@
 -- The row loop: what holds before each data byte, and what each way on from there gives.
 use mathlib.Core.Path.{◌≡◌, refl, sym, ap, ◌∙◌}
-use Prim.Native.Nat.{ℕ, zero, suc, ◌+◌, ◌-◌, ◌*◌, ◌/◌, ◌^◌, ◌≤◌, ◌<◌, min}
+use Prim.Native.Nat.{ℕ, zero, suc, ◌+◌, ◌-◌, ◌*◌, ◌/◌, ◌≤◌, ◌<◌, min}
 use native.Mathlib.Omega.{arith}
-use native.Mathlib.Decide.{dec_lt}
 use native.Mathlib.Nat.{suc-mul, mul_comm, mul-le-mul_right, div-zero, div-mul-le_self}
-use mir.Syntax.{w64}
-use mir.Val.{Fits}
 use mathlib.Core.Bool.{Bool, true, false, true≢false}
 use mathlib.Core.List.{List, [], ◌∷◌, ◌++◌, append_assoc, append-nil}
 use lib.ListN.{length, get_or, take, drop}
 use lib.Dec.{eqb, ltb}
 use borrow.Author.Tests.{eq-eqb, ne_eqb, lt-ltb, le-ltb}
+use Rattle.std.specs.Int.{div_ceil}
 use Rattle.std.specs.Option.{SomeIff, unwrap_or}
 use Rattle.std.specs.Prelude.{Option as Answered, Some, None, Result as Answer, Ok, Err, IsErrAnd}
 use Rattle.std.proofs.lemmas.Result.{err_from_is_err_and}
@@ -102,230 +100,211 @@ wide : (y n w : ℕ) → y < n / w → 0 < w
 wide y n zero l = absurd (omega (arith, rows_none n 0 refl))
 wide y n (suc w) l = omega arith
 
--- ---- what holds at byte j of row y: x cells of the row, which starts at cell `row`, are done
+-- ---- what holds where k data bytes are read
 
-pub record Going (w h rows : ℕ) (t : List ℕ) (i₀ : TextLocation) (lent p : List ℕ) (i : TextLocation) (f : Bool) (y row x : ℕ) : Type 0 where
+pub record Going (w h : ℕ) (t : List ℕ) (i₀ : TextLocation) (lent p : List ℕ) (i : TextLocation) (f : Bool) (k : ℕ) : Type 0 where
   pub done : Log
-  pub j : ℕ
-  pub whole-rows : rows ≡ length lent / w
-  pub even : x ≡ 8 * j
-  pub inside : 0 < w → x < w
-  pub above : y ≤ min (length lent / w) h
-  pub base : row ≡ y * w
   pub size : length p ≡ length lent
-  pub fits : length lent < 2 ^ 64
-  pub long : length done ≡ y * row_bytes w + j
-  pub within : length done ≤ count w h (length lent)
+  pub long : length done ≡ k
+  pub within : k ≤ count w h (length lent)
   pub cells : (c : ℕ) → get_or p c 0 ≡ cell w done c (get_or lent c 0)
-  pub log : log_of (count w h (length lent)) true t i₀ ≡ done ++ log_of (count w h (length lent) - length done) f t i
-  pub fresh : f ≡ eqb (length done) 0
+  pub log : log_of (count w h (length lent)) true t i₀ ≡ done ++ log_of (count w h (length lent) - k) f t i
+  pub fresh : f ≡ eqb k 0
   pub sound : f ≡ false → Sound i
-  pub left : (items (count w h (length lent) - length done) f >>= λ l. after_rows w h (length lent) (values done ++ l)) t i ≡ whole w h (length lent) t i₀
+  pub left : (items (count w h (length lent) - k) f >>= λ l. after_rows w h (length lent) (values done ++ l)) t i ≡ whole w h (length lent) t i₀
 
-module _ (w h rows : ℕ) (t : List ℕ) (i₀ : TextLocation) (lent : List ℕ) where
-  pub going_start : rows ≡ length lent / w → length lent < 2 ^ 64 → Going w h rows t i₀ lent lent i₀ true 0 0 0
+module _ (w h : ℕ) (t : List ℕ) (i₀ : TextLocation) (lent : List ℕ) where
+  pub going_start : (k : ℕ) → k ≡ 0 → Going w h t i₀ lent lent i₀ true k
   unfolding whole cell
-  going_start e k = record {
-    done = [];
-    j = 0;
-    whole-rows = e;
-    even = refl;
-    inside = λ l. l;
-    above = omega arith;
-    base = omega arith;
-    size = refl;
-    fits = k;
-    long = omega arith;
-    within = omega arith;
-    cells = λ c. refl;
-    log = let z : count w h (length lent) - 0 ≡ count w h (length lent) = omega arith in rw z;
-    fresh = refl;
-    sound = λ z. absurd (true≢false z);
-    left = let z : count w h (length lent) - 0 ≡ count w h (length lent) = omega arith in rw z;
-  }
+  going_start k e =
+      let z : count w h (length lent) - k ≡ count w h (length lent) = omega arith in
+      record {
+        done = [];
+        size = refl;
+        long = sym e;
+        within = omega arith;
+        cells = λ c. refl;
+        log = rw z;
+        fresh = rw e;
+        sound = λ z. absurd (true≢false z);
+        left = rw z;
+      }
 
-  module _ (p : List ℕ) (i : TextLocation) (f : Bool) (y row x : ℕ) (g : Going w h rows t i₀ lent p i f y row x) where
+  module _ (p : List ℕ) (i : TextLocation) (f : Bool) (k : ℕ) (g : Going w h t i₀ lent p i f k) where
     -- past the first data byte the place is sound
     pub going-sound : f ≡ false → Sound i
     going-sound = g.sound
 
-    -- a whole row is left
-    below : y < min (length lent / w) h → y * row_bytes w + row_bytes w ≤ count w h (length lent)
-    below l = omega (arith, mul-le-mul_right (row_bytes w) l, suc-mul y (row_bytes w), count-is w h (length lent))
-
-    -- row y is one of the buffer's
-    module _ (l : y < rows) where
-      one_more : y < length lent / w
-      one_more = omega (arith, g.whole-rows)
-
-      in_row : x < w
-      in_row = g.inside (wide y (length lent) w one_more)
-
-      room : row + w ≤ length p
-      room = omega (arith, mul-le-mul_right w one_more, suc-mul y w, div-mul-le_self (length lent) w, g.base, g.size)
-
-      pub left-fits : x ≤ w
-      left-fits = omega (arith, in_row)
-
-      pub start_fits : Fits w64 (row + x)
-      start_fits = record { fits = omega (arith, room, g.size, g.fits, in_row) }
-
-      pub next_fits : Fits w64 (row + w)
-      next_fits = record { fits = omega (arith, room, g.size, g.fits) }
-
-      pub eight-inside : 8 < w - x → row + x + 8 ≤ length p
-      eight-inside k = omega (arith, room)
-
-      pub eight_fits : 8 < w - x → Fits w64 (row + x + 8)
-      eight_fits k = record { fits = omega (arith, room, g.size, g.fits) }
-
-      pub rest-inside : row + x + (w - x) ≤ length p
-      rest-inside = omega (arith, room, in_row)
-
-      pub rest-fits : Fits w64 (row + x + (w - x))
-      rest-fits = record { fits = omega (arith, room, in_row, g.size, g.fits) }
-
-    -- no row is left
-    over : y ≡ min (length lent / w) h → count w h (length lent) - length g.done ≡ 0
-    over e = omega (arith, g.long, g.within, ap (λ (k : ℕ). k * row_bytes w) e, count-is w h (length lent))
-
-    -- and whether a data byte was read is whether there was one
-    told-first : y ≡ min (length lent / w) h → eqb (count w h (length lent)) 0 ≡ f
-    told-first e = let z : count w h (length lent) ≡ length g.done = omega (arith, over e, g.within) in ap (λ (k : ℕ). eqb k 0) z ∙ sym g.fresh
+    -- the same number in other words
+    pub going_as : {n : ℕ} → n ≡ k → Going w h t i₀ lent p i f n
+    going_as e = rw e g
 
     filled : (r : Answer (Unit {0}) RowsError) (l : Log) → log_of (count w h (length lent)) true t i₀ ≡ l → l ≡ g.done → told_rows r ≡ outcome (λ l. tt) (whole w h (length lent) t i₀)
         → Filled w h t i₀ lent p r
     filled r l a b e = record { answer = e; stored = rw (a, b) (painted-all w g.done p lent g.size g.cells) }
 
-    -- the end of all whole rows
-    ended : (r : Answer (Unit {0}) RowsError) → y ≡ min (length lent / w) h → told_rows r ≡ outcome (λ l. tt) (after_rows w h (length lent) (values g.done) t i) → Filled w h t i₀ lent p r
-    ended r e k =
-        filled r g.done
-        (rw (over e) at g.log ∙ log-none f t i g.done)
-        refl
-        (k ∙ ap (outcome (λ l. tt)) (sym (rest-none f t i (after_rows w h (length lent)) (values g.done)) ∙ (rw (over e) at g.left)))
+    -- ---- a data byte that the whole rows have
 
-    -- ---- a data byte was read, and a row is left for it
+    module _ (hk : k < count w h (length lent)) where
+      one_less : count w h (length lent) - k ≡ suc (count w h (length lent) - suc k)
+      one_less = omega arith
 
-    module _ {r : Answer (ℕ × TextLocation) ParseError} {v : ℕ} {q : TextLocation} (e : told_byte r ≡ item f t i) (m : r ≡ Ok (v, q)) (hy : y < h) (hr : y < rows) where
-      got : ok v q ≡ item f t i
-      got = rw m at e
+      -- it is not there
+      pub going-wrong : {r : Answer (ℕ × TextLocation) ParseError} {x : ParseError} {z : Answer (Unit {0}) RowsError} → told_byte r ≡ item f t i → r ≡ Err x → z ≡ Err (Parse x) → Filled w h t i₀ lent p z
+      going-wrong {r} {x} e m u =
+          let o : stop (number x.part) x.place ≡ item f t i = rw m at e in
+          rw u
+          (filled (Err (Parse x)) (g.done ++ []) (rw (log-stop f t i (count w h (length lent) - k) o) at g.log) (append-nil g.done)
+          (ap (outcome (λ l. tt)) (sym (rest-stop f t i (after_rows w h (length lent)) (values g.done) (count w h (length lent) - suc k) o) ∙ (rw one_less at g.left))))
 
-      less : length g.done < count w h (length lent)
-      less = omega (arith, below (omega (arith, one_more hr)), g.long, g.even, in_row hr)
+      -- it is read, and its n cells from s on are stored
+      module _ {r : Answer (ℕ × TextLocation) ParseError} {v : ℕ} {q : TextLocation} (e : told_byte r ≡ item f t i) (m : r ≡ Ok (v, q)) where
+        got : ok v q ≡ item f t i
+        got = rw m at e
 
-      further : Log
-      further = g.done ++ (v, q) ∷ []
+        further : Log
+        further = g.done ++ (v, q) ∷ []
 
-      step : (u n : ℕ) (y' row' x' j' : ℕ) → n ≡ min 8 (w - x) → x' ≡ 8 * j' → x' < w → y' ≤ min (length lent / w) h → row' ≡ y' * w
-          → suc (length g.done) ≡ y' * row_bytes w + j' → Going w h rows t i₀ lent (dab (row + x) v n p) q false y' row' x'
-      unfolding further
-      step u n y' row' x' j' hn he hx hy' hb hl =
-          let k : count w h (length lent) - length g.done ≡ suc (count w h (length lent) - suc (length g.done)) = omega (arith, less) in
-          let d : length further ≡ suc (length g.done) = length_more g.done (v, q) in
-          record {
-            done = further;
-            j = j';
-            whole-rows = g.whole-rows;
-            even = he;
-            inside = λ l. hx;
-            above = hy';
-            base = hb;
-            size = length-dab (row + x) v n p ∙ g.size;
-            fits = g.fits;
-            long = d ∙ hl;
-            within = omega (arith, less);
-            cells =
-                paint-step w (omega (arith, in_row hr)) y g.j (omega (arith, g.even, in_row hr)) (row + x) n (omega (arith, g.base, g.even)) (omega (arith, g.even)) lent p g.done v q
-                g.long
-                (omega (arith, room hr, in_row hr))
-                g.cells;
-            log = rw d (rw (k, log-more f t i (count w h (length lent) - suc (length g.done)) got) at g.log ∙ sym (append_assoc g.done ((v, q) ∷ []) (log_of (count w h (length lent) - suc (length g.done)) false t q)));
-            fresh = rw d (sym (ne_eqb (suc (length g.done)) 0 (λ z. omega arith)));
-            sound = λ z. item-sound f t i got;
-            left = rw (d, values-more g.done v q) (sym (rest_more f t i (after_rows w h (length lent)) (values g.done) (count w h (length lent) - suc (length g.done)) got) ∙ (rw k at g.left));
-          }
+        step : (y j s n : ℕ) → k ≡ y * row_bytes w + j → 0 < w → j < row_bytes w → s ≡ y * w + 8 * j → n ≡ min 8 (w - 8 * j) → s + n ≤ length p → Going w h t i₀ lent (dab s v n p) q false (suc k)
+        unfolding further
+        step y j s n hk' hw hj hs hn hp =
+            let d : length further ≡ suc k = length_more g.done (v, q) ∙ ap suc g.long in
+            record {
+              done = further;
+              size = length-dab s v n p ∙ g.size;
+              long = d;
+              within = hk;
+              cells = paint-step w hw y j hj s n hs hn lent p g.done v q (g.long ∙ hk') hp g.cells;
+              log = rw (one_less, log-more f t i (count w h (length lent) - suc k) got) at g.log ∙ sym (append_assoc g.done ((v, q) ∷ []) (log_of (count w h (length lent) - suc k) false t q));
+              fresh = sym (ne_eqb (suc k) 0 (λ z. omega arith));
+              sound = λ z. item-sound f t i got;
+              left = rw (values-more g.done v q) (sym (rest_more f t i (after_rows w h (length lent)) (values g.done) (count w h (length lent) - suc k) got) ∙ (rw one_less at g.left));
+            }
 
-      -- more of the row is left after it
-      pub going_more : {c : List ℕ} → 8 < w - x → c ≡ unpacked v (take (row + x + 8 - (row + x)) (drop (row + x) p))
-          → Going w h rows t i₀ lent (take (row + x) p ++ (c ++ drop (row + x + 8 - (row + x)) (drop (row + x) p))) q false y row (x + 8)
-      going_more l c =
-          rw (c, dab-part (row + x) v 8 (row + x + 8) p refl (eight-inside hr l))
-          (step 0 8 y row (x + 8) (suc g.j) (omega arith) (omega (arith, g.even)) (omega arith) g.above g.base (omega (arith, g.long)))
+    -- ---- the end of all whole rows
 
-      -- it ends the row
-      pub going_next : {c : List ℕ} → w - x ≤ 8 → c ≡ unpacked v (take (row + x + (w - x) - (row + x)) (drop (row + x) p))
-          → Going w h rows t i₀ lent (take (row + x) p ++ (c ++ drop (row + x + (w - x) - (row + x)) (drop (row + x) p))) q false (y + 1) (row + w) 0
-      going_next l c =
-          rw (c, dab-part (row + x) v (w - x) (row + x + (w - x)) p refl (rest-inside hr))
-          (step 0 (w - x) (y + 1) (row + w) 0 0 (omega arith) refl (omega (arith, in_row hr)) (omega (arith, one_more hr)) (omega (arith, suc-mul y w, g.base))
-          (omega (arith, suc-mul y (row_bytes w), g.long, g.even, in_row hr)))
+    module _ (e : k ≡ count w h (length lent)) where
+      over : count w h (length lent) - k ≡ 0
+      over = omega arith
 
-      -- the bytes left grow fewer
-      pub fewer-more : 8 < w - x → count w h (length lent) - (y * row_bytes w + (x + 8) / 8) < count w h (length lent) - (y * row_bytes w + x / 8)
-      fewer-more l = omega (arith, less, g.long, g.even)
+      -- and whether a data byte was read is whether there was one
+      told-first : eqb (count w h (length lent)) 0 ≡ f
+      told-first = ap (λ (n : ℕ). eqb n 0) (sym e) ∙ sym g.fresh
 
-      pub fewer-next : w - x ≤ 8 → count w h (length lent) - ((y + 1) * row_bytes w + 0 / 8) < count w h (length lent) - (y * row_bytes w + x / 8)
-      fewer-next l = omega (arith, less, g.long, g.even, in_row hr, suc-mul y (row_bytes w))
+      ended : (r : Answer (Unit {0}) RowsError) → told_rows r ≡ outcome (λ l. tt) (after_rows w h (length lent) (values g.done) t i) → Filled w h t i₀ lent p r
+      ended r b =
+          filled r g.done
+          (rw over at g.log ∙ log-none f t i g.done)
+          refl
+          (b ∙ ap (outcome (λ l. tt)) (sym (rest-none f t i (after_rows w h (length lent)) (values g.done)) ∙ (rw over at g.left)))
 
-    -- a data byte was read, and no row is left for it
-    pub going-few : {r : Answer (ℕ × TextLocation) ParseError} {v : ℕ} {q : TextLocation} → told_byte r ≡ item f t i → r ≡ Ok (v, q) → y < h → rows ≤ y → Filled w h t i₀ lent p (Err DimensionMismatch)
+-- byte j of row y of the rows that are read, of which each has a bytes
+module _ (w h : ℕ) (t : List ℕ) (i₀ : TextLocation) (lent p : List ℕ) (i : TextLocation) (f : Bool) {rows a b : ℕ} (y j : ℕ) (g : Going w h t i₀ lent p i f (y * a + j))
+    (hr : rows ≡ length lent / w) (ha : a ≡ div_ceil w 8) (hb : b ≡ min rows h) (hy : y < b) (hj : j < a) where
+  bytes : a ≡ row_bytes w
+  bytes = omega (arith, ha)
+
+  one_more : y < length lent / w
+  one_more = omega arith
+
+  some : 0 < w
+  some = wide y (length lent) w one_more
+
+  in_row : 8 * j < w
+  in_row = omega (arith, bytes)
+
+  room : y * w + w ≤ length p
+  room = omega (arith, mul-le-mul_right w one_more, suc-mul y w, div-mul-le_self (length lent) w, g.size)
+
+  pub rest-inside : y * w + 8 * j + (w - 8 * j) ≤ length p
+  rest-inside = omega (arith, room, in_row)
+
+  pub eight-inside : 8 < w - 8 * j → y * w + 8 * j + 8 ≤ length p
+  eight-inside l = omega (arith, room)
+
+  more : y * a + j < count w h (length lent)
+  more =
+      let l : suc y ≤ min (length lent / w) h = omega arith in
+      omega (arith, mul-le-mul_right (row_bytes w) l, suc-mul y (row_bytes w), count-is w h (length lent), ap (λ (n : ℕ). y * n) bytes, bytes)
+
+  pub going-refused : {r : Answer (ℕ × TextLocation) ParseError} {x : ParseError} {z : Answer (Unit {0}) RowsError} → told_byte r ≡ item f t i → r ≡ Err x → z ≡ Err (Parse x) → Filled w h t i₀ lent p z
+  going-refused = going-wrong w h t i₀ lent p i f (y * a + j) g more
+
+  module _ {r : Answer (ℕ × TextLocation) ParseError} {v : ℕ} {q : TextLocation} (e : told_byte r ≡ item f t i) (m : r ≡ Ok (v, q)) where
+    next : (s n : ℕ) → s ≡ y * w + 8 * j → n ≡ min 8 (w - 8 * j) → Going w h t i₀ lent (dab s v n p) q false (suc (y * a + j))
+    next s n hs hn =
+        step w h t i₀ lent p i f (y * a + j) g more e m y j s n (ap (λ (n : ℕ). y * n + j) bytes) some (omega (arith, bytes)) hs hn (omega (arith, room, in_row))
+
+    -- more of the row is left after it
+    pub going_more : {c : List ℕ} → 8 < w - 8 * j → c ≡ unpacked v (take (y * w + 8 * j + 8 - (y * w + 8 * j)) (drop (y * w + 8 * j) p))
+        → Going w h t i₀ lent (take (y * w + 8 * j) p ++ (c ++ drop (y * w + 8 * j + 8 - (y * w + 8 * j)) (drop (y * w + 8 * j) p))) q false (y * a + (j + 1))
+    going_more l c =
+        rw (c, dab-part (y * w + 8 * j) v 8 (y * w + 8 * j + 8) p refl (omega (arith, room)))
+        (going_as w h t i₀ lent _ q false _ (next (y * w + 8 * j) 8 refl (omega arith)) (omega arith))
+
+    -- it ends the row
+    pub going_next : {c : List ℕ} → w - 8 * j ≤ 8 → c ≡ unpacked v (take (y * w + 8 * j + (w - 8 * j) - (y * w + 8 * j)) (drop (y * w + 8 * j) p))
+        → Going w h t i₀ lent (take (y * w + 8 * j) p ++ (c ++ drop (y * w + 8 * j + (w - 8 * j) - (y * w + 8 * j)) (drop (y * w + 8 * j) p))) q false (y * a + (j + 1))
+    going_next l c =
+        rw (c, dab-part (y * w + 8 * j) v (w - 8 * j) (y * w + 8 * j + (w - 8 * j)) p refl (omega (arith, room, in_row)))
+        (going_as w h t i₀ lent _ q false _ (next (y * w + 8 * j) (w - 8 * j) refl (omega arith)) (omega arith))
+
+-- all rows that the buffer has whole, as far as the picture goes
+module _ (w h : ℕ) (t : List ℕ) (i₀ : TextLocation) (lent p : List ℕ) (i : TextLocation) (f : Bool) {rows a b : ℕ} (y : ℕ) (g : Going w h t i₀ lent p i f (y * a))
+    (hr : rows ≡ length lent / w) (ha : a ≡ div_ceil w 8) (hb : b ≡ min rows h) (hy : b ≤ y) (hl : y ≤ b) where
+  all_read : y * a ≡ count w h (length lent)
+  all_read =
+      let z : y ≡ min (length lent / w) h = omega arith in
+      let u : a ≡ row_bytes w = omega (arith, ha) in
+      rw (z, u) (sym (count-is w h (length lent)))
+
+  close : (r : Answer (Unit {0}) RowsError) → told_rows r ≡ outcome (λ l. tt) (after_rows w h (length lent) (values g.done) t i) → Filled w h t i₀ lent p r
+  close = ended w h t i₀ lent p i f (y * a) g all_read
+
+  -- too few, and the next data byte is read
+  module _ (lt : rows < h) {r : Answer (ℕ × TextLocation) ParseError} (e : told_byte r ≡ item f t i) where
+    pub going-few : {v : ℕ × TextLocation} → r ≡ Ok v → Filled w h t i₀ lent p (Err DimensionMismatch)
     unfolding ◌>>=◌ need
-    going-few {r} {v} {q} e m hy hr =
-        let a : y ≤ min (length lent / w) h = g.above in
-        let k : rows ≡ length lent / w = g.whole-rows in
-        let o : ok v q ≡ item f t i = rw m at e in
-        ended (Err DimensionMismatch) (omega arith) (rw (ne_eqb (length lent / w) h (λ z. omega arith), lt-ltb (length lent / w) h (omega arith), told-first (omega arith), ← o))
+    going-few {v} m =
+        let o : ok v.0 v.1 ≡ item f t i = rw m at e in
+        close (Err DimensionMismatch)
+        (rw (ne_eqb (length lent / w) h (λ z. omega arith), lt-ltb (length lent / w) h (omega arith), told-first w h t i₀ lent p i f (y * a) g all_read, ← o))
 
-    -- no data byte
-    pub going-wrong : {r : Answer (ℕ × TextLocation) ParseError} {x : ParseError} {z : Answer (Unit {0}) RowsError} → told_byte r ≡ item f t i → r ≡ Err x → z ≡ Err (Parse x) → y < h → Filled w h t i₀ lent p z
+    pub going-few-wrong : {x : ParseError} {z : Answer (Unit {0}) RowsError} → r ≡ Err x → z ≡ Err (Parse x) → Filled w h t i₀ lent p z
     unfolding ◌>>=◌
-    going-wrong {r} {x} e m u hy = rw u (go (dec_lt y (length lent / w)))
+    going-few-wrong {x} m u =
+        let o : stop (number x.part) x.place ≡ item f t i = rw m at e in
+        rw u
+        (close (Err (Parse x))
+        (rw (ne_eqb (length lent / w) h (λ z. omega arith), lt-ltb (length lent / w) h (omega arith), told-first w h t i₀ lent p i f (y * a) g all_read, ← o)))
+
+  -- as many or more, and the trailer is read
+  module _ (le : h ≤ rows) {m : Answer TextLocation ParseError} (e : told m ≡ trailer t i) where
+    pub going_done : {q : TextLocation} → m ≡ Ok q → rows ≡ h → Filled w h t i₀ lent p (Ok tt)
+    unfolding ◌>>=◌ give
+    going_done {q} k n =
+        let o : ok tt q ≡ trailer t i = rw k at e in
+        close (Ok tt) (rw (eq-eqb (length lent / w) h (sym hr ∙ n), ← o))
+
+    pub going-many : {q : TextLocation} → m ≡ Ok q → (rows ≡ h → ⊥) → Filled w h t i₀ lent p (Err DimensionMismatch)
+    unfolding ◌>>=◌ need
+    going-many {q} k n =
+        let o : ok tt q ≡ trailer t i = rw k at e in
+        close (Err DimensionMismatch) (rw (ne_eqb (length lent / w) h (λ z. n (hr ∙ z)), le-ltb (length lent / w) h (omega arith), ← o))
+
+    pub going-bad : {x : ParseError} {z : Answer (Unit {0}) RowsError} → m ≡ Err x → z ≡ Err (Parse x) → Filled w h t i₀ lent p z
+    unfolding ◌>>=◌
+    going-bad {x} k v = rw v (go (eqb (length lent / w) h) refl)
       where
-        o : stop (number x.part) x.place ≡ item f t i
-        o = rw m at e
+        o : stop (number x.part) x.place ≡ trailer t i
+        o = rw k at e
 
-        go : Dec (y < length lent / w) → Filled w h t i₀ lent p (Err (Parse x))
-        go (no n) =
-            let a : y ≤ min (length lent / w) h = g.above in
-            ended (Err (Parse x)) (omega arith) (rw (ne_eqb (length lent / w) h (λ z. omega arith), lt-ltb (length lent / w) h (omega arith), told-first (omega arith), ← o))
-        go (yes n) =
-            let k : count w h (length lent) - length g.done ≡ suc (count w h (length lent) - suc (length g.done)) = omega (arith, below (omega arith), g.long, g.even, in_row (omega (arith, g.whole-rows))) in
-            filled (Err (Parse x)) (g.done ++ [])
-            (rw (log-stop f t i (count w h (length lent) - length g.done) o) at g.log)
-            (append-nil g.done)
-            (ap (outcome (λ l. tt)) (sym (rest-stop f t i (after_rows w h (length lent)) (values g.done) (count w h (length lent) - suc (length g.done)) o) ∙ (rw k at g.left)))
-
-    -- all rows of the picture are read
-    last : h ≤ y → y ≡ min (length lent / w) h
-    last l = omega (arith, g.above)
-
-    module _ {m : Answer TextLocation ParseError} (e : told m ≡ trailer t i) (hy : h ≤ y) where
-      pub going_done : {q : TextLocation} → m ≡ Ok q → rows ≡ h → Filled w h t i₀ lent p (Ok tt)
-      unfolding ◌>>=◌ give
-      going_done {q} k n =
-          let o : ok tt q ≡ trailer t i = rw k at e in
-          ended (Ok tt) (last hy) (rw (eq-eqb (length lent / w) h (sym g.whole-rows ∙ n), ← o))
-
-      pub going-many : {q : TextLocation} → m ≡ Ok q → (rows ≡ h → ⊥) → Filled w h t i₀ lent p (Err DimensionMismatch)
-      unfolding ◌>>=◌ need
-      going-many {q} k n =
-          let o : ok tt q ≡ trailer t i = rw k at e in
-          ended (Err DimensionMismatch) (last hy) (rw (ne_eqb (length lent / w) h (λ z. n (g.whole-rows ∙ z)), le-ltb (length lent / w) h (omega (arith, last hy)), ← o))
-
-      pub going-bad : {x : ParseError} {z : Answer (Unit {0}) RowsError} → m ≡ Err x → z ≡ Err (Parse x) → Filled w h t i₀ lent p z
-      unfolding ◌>>=◌
-      going-bad {x} k v = rw v (go (eqb (length lent / w) h) refl)
-        where
-          o : stop (number x.part) x.place ≡ trailer t i
-          o = rw k at e
-
-          go : (b : Bool) → eqb (length lent / w) h ≡ b → Filled w h t i₀ lent p (Err (Parse x))
-          go true u = ended (Err (Parse x)) (last hy) (rw (u, ← o))
-          go false u = ended (Err (Parse x)) (last hy) (rw (u, le-ltb (length lent / w) h (omega (arith, last hy)), ← o))
+        go : (b : Bool) → eqb (length lent / w) h ≡ b → Filled w h t i₀ lent p (Err (Parse x))
+        go true u = close (Err (Parse x)) (rw (u, ← o))
+        go false u = close (Err (Parse x)) (rw (u, le-ltb (length lent / w) h (omega arith), ← o))
 
 -- what the exit of a `?` hands back
 pub ends-as : {r : Answer (Unit {0}) RowsError} {x : RowsError} → IsErrAnd r (λ e. e ≡ x) → r ≡ Err x
 ends-as {r} h = let p = err_from_is_err_and r h in p.1 ∙ ap (λ e. Err e) p.2
 
-pub ruleset going_laws = (rows-are, going_start, going-sound, going-few, left-fits, start_fits, eight_fits, eight-inside, rest-fits, rest-inside, next_fits, fewer-more, going_more, fewer-next, going_next, going-wrong, going_done, going-many, going-bad)
+pub ruleset going_laws = (rows-are, going_start, going-sound, going_as, rest-inside, eight-inside, going_more, going_next, going-refused, going-few, going-few-wrong, going_done, going-many, going-bad)

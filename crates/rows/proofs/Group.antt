@@ -11,17 +11,16 @@ use lib.ListN.{length, drop, get_or}
 use native.Mathlib.Numerals.{add-one}
 use lib.Seq.{drop-cons}
 use lib.Dec.{eqb, ltb}
-use Rattle.std.specs.Prelude.{Option as Answered, Some, None, Result as Answer, Ok, Err}
+use Rattle.std.specs.Prelude.{Option as Answered, Some, None, Result as Answer, Err}
 use Rattle.std.specs.Int.{from_le_bytes}
-use Rattle.std.proofs.lemmas.Nat.{le_bytes_4}
 use Rattle.text.specs.declared.TextLocation.{TextLocation}
 use Rattle.text.specs.Place.{pick, byte_of, reaches_to, along_line, rest, after, past}
 use Rattle.text.specs.Rest.{Sound}
 use Rattle.text.proofs.Rest.{after-rest}
 use Rattle.text.proofs.PlaceLaws.{sound-rest, along-past}
-use Rattle.text.specs.Reader.{Result, ok, stop, ◌>>=◌}
+use Rattle.text.specs.Reader.{Result, ok, ◌>>=◌}
 use Rattle.text.specs.Leaf.{one, run, give}
-use Rattle.lexical.specs.Lexical.{is_loose, is_blank, skip, byte, is, fixed, number, told_byte}
+use Rattle.lexical.specs.Lexical.{is_loose, is_blank, skip, byte, is, fixed, told_byte}
 use Rattle.lexical.specs.declared.ParseError.{ParseError}
 use Rattle.hexadecimal.specs.Hex.{hex_of, value_of, hexv, hex_digit, hex_start, hex_digits, hex_unit, is_mark}
 use Rattle.body.specs.Data.{item}

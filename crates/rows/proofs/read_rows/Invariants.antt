@@ -1,13 +1,10 @@
--- What each turn of the loop in `read_rows` keeps.
-use Rattle.body.specs.Data.{row_bytes}
-use Rattle.cells.specs.Cells.{count}
+-- What each turn of the loops in `read_rows` keeps.
+use Prim.Native.Nat.{◌+◌, ◌*◌}
 use Rattle.rows.proofs.Going.{Going}
-use Prim.Native.Nat.{◌+◌, ◌-◌, ◌*◌, ◌/◌}
-use lib.ListN.{length}
 use Rattle.rows.proofs.read_rows.Given as goal
 
 abbrev pub invariant-loop-y : goal.invariant-loop-y
-invariant-loop-y l = Going l.w l.h l.rows l.text l.initial.at l.initial.pixels l.pixels l.at l.first l.y l.row l.x
+invariant-loop-y l = Going l.w l.h l.text l.fn.place l.fn.pixels l.pixels l.at l.first (l.y * l.across)
 
-abbrev pub decreases-loop-y : goal.decreases-loop-y
-decreases-loop-y l = count l.w l.h (length l.initial.pixels) - (l.y * row_bytes l.w + l.x / 8)
+abbrev pub invariant-loop-j : goal.invariant-loop-j
+invariant-loop-j l = Going l.w l.h l.text l.fn.place l.fn.pixels l.pixels l.at l.first (l.y * l.across + l.j)
