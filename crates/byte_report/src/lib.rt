@@ -30,12 +30,18 @@ pub fn tell(
 ) -> u32
     ensures { (result ≡ next_number (told_next answer)) × (report.new ≡ next_report (told_next answer) decoder) }
 {
-    let (number, place, byte) = match answer {
-        Ok(Some(b)) => (0, decoder.location, u64::from(b)),
-        Ok(None) => (0, decoder.location, 256),
-        Err(StreamError::Parse(e)) => (part_number(e.part), e.place, 0),
-        Err(StreamError::Foreign) => (9, no_place(), 0),
-    };
-    *report = report_of(place, byte);
-    number
+    match answer {
+        Ok(byte) => {
+            *report = report_of(decoder.location, byte.map_or(256, u64::from));
+            0
+        }
+        Err(StreamError::Parse(e)) => {
+            *report = report_of(e.place, 0);
+            part_number(e.part)
+        }
+        Err(StreamError::Foreign) => {
+            *report = report_of(no_place(), 0);
+            9
+        }
+    }
 }

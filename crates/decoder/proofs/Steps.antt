@@ -1,27 +1,22 @@
 -- What a step of the code says of the foreign rule and of one call for the next data byte.
 use Prim.Native.Nat.{ℕ, ◌+◌, ◌<◌, ◌≤◌}
-use native.Mathlib.Omega.{arith}
-use mir.Val.{bool_byte}
 use borrow.Author.Tests.{eq-eqb, ne_eqb, lt-ltb, le-ltb}
-use mathlib.Core.Path.{◌≡◌, refl}
+use mathlib.Core.Path.{◌≡◌}
 use mathlib.Core.Option.{Option, none, some}
 use mathlib.Core.Logic.{◌⊎◌, inl, inr}
 use mathlib.Core.List.{List}
 use mathlib.Core.Bool.{Bool, true, false}
 use lib.Dec.{eqb, ltb}
-use Rattle.std.specs.Prelude.{Option as Given, Result as Answer, Ok, Err}
+use Rattle.std.specs.Prelude.{Result as Answer, Ok, Err}
 use Rattle.text.specs.declared.TextLocation.{TextLocation}
-use Rattle.text.specs.Place.{pick, is_foreign}
-use Rattle.text.specs.Reader.{Result, Reader, ◌>>=◌, ◌>>◌}
-use Rattle.text.proofs.Reading.{bind-stop, bind_laws}
+use Rattle.text.specs.Place.{is_foreign}
+use Rattle.text.specs.Reader.{◌>>=◌}
 use Rattle.text.specs.Leaf.{give}
-use Rattle.text.specs.Outcome.{Outcome, unplaced}
+use Rattle.text.specs.Outcome.{Outcome, accepted, unplaced}
 use Rattle.lexical.specs.declared.ParseError.{ParseError}
 use Rattle.lexical.specs.Lexical.{told, told_byte}
-use Rattle.lexical.proofs.Laws.{told-refused, pass-to}
-use Rattle.hexadecimal.proofs.Hex.{told-not_got, pass-got}
 use Rattle.body.specs.Data.{item, trailer, bytes_of}
-use Rattle.decoder.specs.Step.{foreign, more, called, spent, placed_at, told_called, told_next, Step, step_of}
+use Rattle.decoder.specs.Step.{foreign, more, called, placed_at, told_next, Step, step_of}
 use Rattle.decoder.specs.declared.StreamError.{StreamError}
 use Rattle.decoder.specs.declared.StreamError.TheVariants.{Parse}
 use Rattle.decoder.specs.declared.XbmStreamDecoder.{XbmStreamDecoder}
@@ -44,50 +39,32 @@ module _ (t : List ℕ) (d : XbmStreamDecoder) where
 
 pub ruleset foreign_laws = (foreign-sides, foreign-position, foreign-place)
 
--- what is read at a decoder's place
-module _ (t : List ℕ) (d : XbmStreamDecoder) {w : Bool} (g : w ≡ more d) {z : Result (Option ℕ)} where
-  pub called-more : w ≡ true → z ≡ (item (eqb d.current_position 0) >>= λ b. give (some b)) t d.location → z ≡ called d t d.location
-  unfolding called
-  called-more h k = rw (← g, h) k
-
-  pub called-none : w ≡ false → z ≡ (trailer >> give none) t d.location → z ≡ called d t d.location
-  unfolding called
-  called-none h k = rw (← g, h) k
-
--- the exit of a `?` there
-module _ (t : List ℕ) (i : TextLocation) {r : Answer (Given ℕ × TextLocation) ParseError} {x : ParseError} where
-  pub exit-item : (p : Reader ℕ) (f : ℕ → Reader (Option ℕ)) {m : Answer (ℕ × TextLocation) ParseError} → told_byte m ≡ p t i → m ≡ Err x → r ≡ Err x → told_called r ≡ (p >>= f) t i
-  exit-item p f e h k = rw k (bind-stop p f t i (told-not_got e h) refl)
-
-  pub exit-trailer : (p : Reader (Unit {0})) (f : Unit {0} → Reader (Option ℕ)) {m : Answer TextLocation ParseError} → told m ≡ p t i → m ≡ Err x → r ≡ Err x → told_called r ≡ (p >>= f) t i
-  exit-trailer p f e h k = rw k (bind-stop p f t i (told-refused e h) refl)
-
-pub ruleset called_laws = (called-more, called-none, exit-item, exit-trailer, pass-got, pass-to, bind_laws)
-
 -- one call
 abbrev stepped : Outcome (Option ℕ) → XbmStreamDecoder → Step
 stepped a d = record { answer = a; decoder = d }
-
--- a data byte counts as asked for if one is left
-pub spent-is : (d : XbmStreamDecoder) {w : Bool} {k : ℕ} → w ≡ more d → k ≡ bool_byte w → d.current_position + k ≡ spent d
-spent-is d {w} {k} e h = rw (h, e) (go (more d))
-  where
-    go : (w : Bool) → d.current_position + bool_byte w ≡ pick w (d.current_position + 1) d.current_position
-    go true = refl
-    go false = omega arith
 
 module _ (t : List ℕ) (d : XbmStreamDecoder) {f : Bool} (e : f ≡ foreign t d) where
   pub step-foreign : f ≡ true → stepped (unplaced 9) d ≡ step_of t d
   unfolding step_of
   step-foreign h = rw (← e, h)
 
-  module _ (h : f ≡ false) {r : Answer (Given ℕ × TextLocation) ParseError} (m : told_called r ≡ called d t d.location) where
-    pub step-read : {b : Given ℕ} {q : TextLocation} {a : Answer (Given ℕ) StreamError × TextLocation} {k : ℕ} → r ≡ Ok (b, q) → a ≡ (Ok b, q) → k ≡ spent d → stepped (told_next a.0) (placed_at d k a.1) ≡ step_of t d
-    unfolding step_of
-    step-read u w z = rw (z, w, ← e, h, ← m, u)
+  module _ (h : f ≡ false) {w : Bool} (g : w ≡ more d) where
+    module _ (l : w ≡ true) {r : Answer (ℕ × TextLocation) ParseError} (m : told_byte r ≡ item (eqb d.current_position 0) t d.location) where
+      pub step-byte : {b : ℕ} {q : TextLocation} → r ≡ Ok (b, q) → stepped (accepted (some b)) (placed_at d (d.current_position + 1) q) ≡ step_of t d
+      unfolding step_of called ◌>>=◌ give
+      step-byte k = rw (← e, h, ← g, l, ← m, k)
 
-    pub step-refused : {x : ParseError} {y : StreamError} {a : Answer (Given ℕ) StreamError × TextLocation} {k : ℕ} → r ≡ Err x → y ≡ Parse x → a ≡ (Err y, x.place) → k ≡ spent d → stepped (told_next a.0) (placed_at d k a.1) ≡ step_of t d
-    unfolding step_of
-    step-refused u v w z = rw (z, w, v, ← e, h, ← m, u)
+      pub step-wrong : {x : ParseError} {y : StreamError} → r ≡ Err x → y ≡ Parse x → stepped (told_next (Err y)) (placed_at d (d.current_position + 1) x.place) ≡ step_of t d
+      unfolding step_of called ◌>>=◌ give
+      step-wrong k u = rw (u, ← e, h, ← g, l, ← m, k)
 
-pub ruleset step_laws = (spent-is, step-foreign, step-read, step-refused)
+    module _ (l : w ≡ false) {r : Answer TextLocation ParseError} (m : told r ≡ trailer t d.location) where
+      pub step-done : {q : TextLocation} → r ≡ Ok q → stepped (accepted none) (placed_at d d.current_position q) ≡ step_of t d
+      unfolding step_of called ◌>>=◌ give
+      step-done k = rw (← e, h, ← g, l, ← m, k)
+
+      pub step-bad : {x : ParseError} {y : StreamError} → r ≡ Err x → y ≡ Parse x → stepped (told_next (Err y)) (placed_at d d.current_position x.place) ≡ step_of t d
+      unfolding step_of called ◌>>=◌ give
+      step-bad k u = rw (u, ← e, h, ← g, l, ← m, k)
+
+pub ruleset step_laws = (step-foreign, step-byte, step-wrong, step-done, step-bad)

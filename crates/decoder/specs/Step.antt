@@ -3,10 +3,9 @@ use Rattle.std.specs.Prelude.{ℕ, ◌+◌, Bool, true, List, eqb, ltb, Option a
 use Rattle.std.proofs.Math.Option.{Option, none, some}
 use Rattle.text.specs.declared.TextLocation.{TextLocation}
 use Rattle.text.specs.Place.{pick, is_foreign}
-use Rattle.text.specs.Reader.{Result, ok, stop, end_of, Reader, ◌>>=◌, ◌>>◌}
+use Rattle.text.specs.Reader.{end_of, Reader, ◌>>=◌, ◌>>◌}
 use Rattle.text.specs.Leaf.{give}
 use Rattle.text.specs.Outcome.{Outcome, accepted, refused, unplaced, outcome}
-use Rattle.lexical.specs.declared.ParseError.{ParseError}
 use Rattle.lexical.specs.Lexical.{number}
 use Rattle.body.specs.Data.{item, trailer, bytes_of}
 use Rattle.decoder.specs.declared.XbmStreamDecoder.{XbmStreamDecoder}
@@ -52,11 +51,6 @@ step_of t d = record {
 abbrev pub byte_given : Given ℕ → Option ℕ
 byte_given (Some b) = some b
 byte_given None = none
-
--- what the code reads at a decoder's place
-abbrev pub told_called : Answer (Given ℕ × TextLocation) ParseError → Result (Option ℕ)
-told_called (Ok r) = ok (byte_given r.0) r.1
-told_called (Err e) = stop (number e.part) e.place
 
 -- an answer of the code: the byte, none left, or the refusal's number and place
 abbrev pub told_next : Answer (Given ℕ) StreamError → Outcome (Option ℕ)
