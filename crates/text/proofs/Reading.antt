@@ -1,13 +1,13 @@
 -- What a step of the code says of a reader's definition. Each law's premises are what a call ensures and what a `match` or a test tells,
 -- and its conclusion is `result ≡ definition`, so `search` puts them together.
-use Rattle.std.proofs.Common.{◌≡◌, ℕ, ◌*◌, ◌^◌, ◌<◌, List, length, ap, ◌∙◌, eq-eqb, ne_eqb}
+use Rattle.std.proofs.Common.{◌≡◌, ℕ, List, eq-eqb, ne_eqb}
 use mathlib.Core.Option.{Option, none, some}
 use Rattle.std.specs.Prelude.{Option as Taken, Some, None}
 use Rattle.text.specs.declared.TextLocation.{TextLocation}
-use Rattle.text.specs.Place.{past_byte, took_at}
+use Rattle.text.specs.Place.{after, peeked_at}
 use Rattle.text.specs.Reader.{Result, ok, stop, bad, Reader, ◌>>=◌}
 use Rattle.text.specs.Leaf.{one, run, Move, go_on, stay, halt, give, fork}
-use Rattle.text.proofs.Laws.{next-rest, next-after, next_past, end_rest}
+use Rattle.text.proofs.Laws.{next-rest, end_rest}
 
 -- one reading after another
 module _ {A B : Type 0} (p : Reader A) (f : A → Reader B) (t : List ℕ) (i : TextLocation) where
@@ -28,36 +28,32 @@ unfolding give
 give-ok a t i e = rw e
 
 -- a byte
-module _ {A : Type 0} (c : ℕ) (g : ℕ → Option A) (t : List ℕ) (i : TextLocation) where
-  pub one_ok : {r : Taken (ℕ × TextLocation)} {b : ℕ} {q : TextLocation} {a : A} → r ≡ took_at t i → r ≡ Some (b, q) → g b ≡ some a → ok a q ≡ one c g t i
+module _ {A : Type 0} (c : ℕ) (g : ℕ → Option A) (t : List ℕ) (i : TextLocation) {r : Taken ℕ} (e : r ≡ peeked_at t i) where
+  pub one_ok : {b : ℕ} {a : A} → r ≡ Some b → g b ≡ some a → ok a (after b i) ≡ one c g t i
   unfolding one
-  one_ok e m h = rw (next-rest t i e m, h, ← next-after t i e m)
+  one_ok m h = rw (next-rest t i e m, h)
 
-  -- the same with the place made of the byte
-  pub one-past : {r : Taken (ℕ × TextLocation)} {b : ℕ} {q p : TextLocation} {a : A} → length t * 1 < 2 ^ 63 → r ≡ took_at t i → r ≡ Some (b, q) → p ≡ past_byte i b → g b ≡ some a → ok a p ≡ one c g t i
-  one-past {p = p} {a = a} l e m k h = ap (ok a) (k ∙ next_past t i l e m) ∙ one_ok e m h
-
-  pub one-stop : {r : Taken (ℕ × TextLocation)} {b : ℕ} {q : TextLocation} → r ≡ took_at t i → r ≡ Some (b, q) → g b ≡ none → stop c q ≡ one c g t i
+  pub one-stop : {b : ℕ} → r ≡ Some b → g b ≡ none → stop c (after b i) ≡ one c g t i
   unfolding one
-  one-stop e m h = rw (next-rest t i e m, h, ← next-after t i e m)
+  one-stop m h = rw (next-rest t i e m, h)
 
-  pub one_end : {r : Taken (ℕ × TextLocation)} → r ≡ took_at t i → r ≡ None → stop c i ≡ one c g t i
+  pub one_end : r ≡ None → stop c i ≡ one c g t i
   unfolding one
-  one_end e m = rw (end_rest t i e m)
+  one_end m = rw (end_rest t i e m)
 
 -- a look at the next byte
-module _ {A : Type 0} (c x : ℕ) (p : Reader A) (y : ℕ) (q : Reader A) (t : List ℕ) (i : TextLocation) {r : Taken (ℕ × TextLocation)} {z : Result A} (e : r ≡ took_at t i) where
-  pub fork-first : {b : ℕ} {n : TextLocation} → r ≡ Some (b, n) → b ≡ x → z ≡ p t i → z ≡ fork c x p y q t i
+module _ {A : Type 0} (c x : ℕ) (p : Reader A) (y : ℕ) (q : Reader A) (t : List ℕ) (i : TextLocation) {r : Taken ℕ} {z : Result A} (e : r ≡ peeked_at t i) where
+  pub fork-first : {b : ℕ} → r ≡ Some b → b ≡ x → z ≡ p t i → z ≡ fork c x p y q t i
   unfolding fork
   fork-first {b} m h k = rw (next-rest t i e m, eq-eqb b x h) k
 
-  pub fork-second : {b : ℕ} {n : TextLocation} → r ≡ Some (b, n) → (b ≡ x → ⊥) → b ≡ y → z ≡ q t i → z ≡ fork c x p y q t i
+  pub fork-second : {b : ℕ} → r ≡ Some b → (b ≡ x → ⊥) → b ≡ y → z ≡ q t i → z ≡ fork c x p y q t i
   unfolding fork
   fork-second {b} m g h k = rw (next-rest t i e m, ne_eqb b x g, eq-eqb b y h) k
 
-  pub fork-neither : {b : ℕ} {n : TextLocation} → r ≡ Some (b, n) → (b ≡ x → ⊥) → (b ≡ y → ⊥) → z ≡ stop c n → z ≡ fork c x p y q t i
+  pub fork-neither : {b : ℕ} → r ≡ Some b → (b ≡ x → ⊥) → (b ≡ y → ⊥) → z ≡ stop c (after b i) → z ≡ fork c x p y q t i
   unfolding fork
-  fork-neither {b} m g h k = rw (next-rest t i e m, ne_eqb b x g, ne_eqb b y h, ← next-after t i e m) k
+  fork-neither {b} m g h k = rw (next-rest t i e m, ne_eqb b x g, ne_eqb b y h) k
 
   pub fork-end : r ≡ None → z ≡ stop c i → z ≡ fork c x p y q t i
   unfolding fork
@@ -66,25 +62,25 @@ module _ {A : Type 0} (c x : ℕ) (p : Reader A) (y : ℕ) (q : Reader A) (t : L
 pub ruleset fork_laws = (fork-first, fork-second, fork-neither, fork-end)
 
 -- a run; z is what the whole run gives
-module _ {S A : Type 0} (c : ℕ) (step : S → ℕ → Move S A) (fin : S → Option A) (s : S) (t : List ℕ) (i : TextLocation) {z : Result A} where
-  pub run_on : {r : Taken (ℕ × TextLocation)} {b : ℕ} {q : TextLocation} {s' : S} → r ≡ took_at t i → r ≡ Some (b, q) → step s b ≡ go_on s' → run c step fin s t i ≡ z → run c step fin s' t q ≡ z
+module _ {S A : Type 0} (c : ℕ) (step : S → ℕ → Move S A) (fin : S → Option A) (s : S) (t : List ℕ) (i : TextLocation) {z : Result A} {r : Taken ℕ} (e : r ≡ peeked_at t i) where
+  pub run_on : {b : ℕ} {s' : S} → r ≡ Some b → step s b ≡ go_on s' → run c step fin s t i ≡ z → run c step fin s' t (after b i) ≡ z
   unfolding run
-  run_on e m h k = rw (next-rest t i e m, h, ← next-after t i e m) at k
+  run_on m h k = rw (next-rest t i e m, h) at k
 
-  pub run-stay : {r : Taken (ℕ × TextLocation)} {b : ℕ} {q : TextLocation} {a : A} → r ≡ took_at t i → r ≡ Some (b, q) → step s b ≡ stay a → run c step fin s t i ≡ z → ok a i ≡ z
+  pub run-stay : {b : ℕ} {a : A} → r ≡ Some b → step s b ≡ stay a → run c step fin s t i ≡ z → ok a i ≡ z
   unfolding run
-  run-stay e m h k = rw (next-rest t i e m, h) at k
+  run-stay m h k = rw (next-rest t i e m, h) at k
 
-  pub run-halt : {r : Taken (ℕ × TextLocation)} {b : ℕ} {q : TextLocation} → r ≡ took_at t i → r ≡ Some (b, q) → step s b ≡ halt → run c step fin s t i ≡ z → stop c i ≡ z
+  pub run-halt : {b : ℕ} → r ≡ Some b → step s b ≡ halt → run c step fin s t i ≡ z → stop c i ≡ z
   unfolding run
-  run-halt e m h k = rw (next-rest t i e m, h) at k
+  run-halt m h k = rw (next-rest t i e m, h) at k
 
-  pub run_end : {r : Taken (ℕ × TextLocation)} {a : A} → r ≡ took_at t i → r ≡ None → fin s ≡ some a → run c step fin s t i ≡ z → ok a i ≡ z
+  pub run_end : {a : A} → r ≡ None → fin s ≡ some a → run c step fin s t i ≡ z → ok a i ≡ z
   unfolding run
-  run_end e m h k = rw (end_rest t i e m, h) at k
+  run_end m h k = rw (end_rest t i e m, h) at k
 
-  pub run-lacks : {r : Taken (ℕ × TextLocation)} → r ≡ took_at t i → r ≡ None → fin s ≡ none → run c step fin s t i ≡ z → stop c i ≡ z
+  pub run-lacks : r ≡ None → fin s ≡ none → run c step fin s t i ≡ z → stop c i ≡ z
   unfolding run
-  run-lacks e m h k = rw (end_rest t i e m, h) at k
+  run-lacks m h k = rw (end_rest t i e m, h) at k
 
 pub ruleset bind_laws = (bind_ok, bind-stop, bind-bad, give-ok)

@@ -1,8 +1,9 @@
-// A place in a text, and taking or looking at one byte there: the core of the text reader, by value.
+// A text reader: a text, the place of its next byte, and taking or looking at it.
 #![tactic(auto)]
 
 ghost use Rattle.std.specs.Prelude.{◌≡◌, ◌^◌, ◌<◌};
-ghost use Rattle.text.specs.Place.{byte_of, at_line_start, start, nowhere, is_sound, is_foreign, reaches_to, has_left, along_line, past_line, past_byte, took_at, peeked_at};
+ghost use Rattle.text.specs.Place.{byte_of, at_line_start, start, nowhere, is_sound, along_line, past_line, past_byte};
+ghost use Rattle.text.specs.TextReader.{foreign, reaching, left, next_of, moved_on, passed, passed_along, passed_line};
 
 use std::num::wrapping_add_u64;
 
@@ -76,37 +77,6 @@ fn is_sound(place: TextLocation) -> bool
     place.byte.0 - place.column.0 == place.start.0
 }
 
-// Whether the text has no such place: a byte past its end, a start that is not the byte less the column, or a line that so few bytes do not reach.
-pub fn is_foreign_place(text: &[u8], place: TextLocation) -> bool
-    ensures { result ≡ is_foreign text.now place }
-{
-    if (text.len() as u64) < place.byte.0 {
-        return true;
-    }
-    !is_sound(place)
-}
-
-// Whether the text has n bytes or more from the place's byte on, whatever its other numbers.
-pub fn reaches(text: &[u8], place: TextLocation, n: u64) -> bool
-    ensures { result ≡ reaches_to text.now place n }
-{
-    let size = text.len() as u64;
-    if size < n {
-        return false;
-    }
-    place.byte.0 <= size - n
-}
-
-// Whether the place is not foreign and n bytes or more stand from it on.
-pub fn has_left(text: &[u8], place: TextLocation, n: u64) -> bool
-    ensures { result ≡ has_left text.now place n }
-{
-    if reaches(text, place, n) {
-        return is_sound(place);
-    }
-    false
-}
-
 // The place n bytes on within a line. Past 2 ^ 64 bytes, which no text has, the sums wrap; so below.
 pub fn along(place: TextLocation, n: u64) -> TextLocation
     ensures { result ≡ along_line place n }
@@ -137,29 +107,110 @@ pub fn past_byte(place: TextLocation, b: u8) -> TextLocation
     along(place, 1)
 }
 
-// The next byte at a place, and the place after it; none at the end. A foreign place is as the end. The newline is tested here again
-// and not by `past_byte`: so the test stays a branch, and is gone where the byte is known.
-pub fn take(text: &[u8], place: TextLocation) -> Option<(u8, TextLocation)>
-    ensures { result ≡ took_at text.now place }
-{
-    let at = place.byte.0;
-    if at >= text.len() as u64 {
-        return None;
-    }
-    if is_sound(place) {
-        let i = at as usize;
-        let b = text[i];
-        if b == b'\n' {
-            return Some((b, past_line(place, 0)));
-        }
-        return Some((b, along(place, 1)));
-    }
-    None
+// A lent text, and the place of its next byte.
+#[repr(C)]
+#[derive(Clone, Copy)]
+pub struct TextReader<'a> {
+    pub text: &'a [u8],
+    pub location: TextLocation,
 }
 
-// The same, with nothing taken.
-pub fn peek(text: &[u8], place: TextLocation) -> Option<u8>
-    ensures { result ≡ peeked_at text.now place }
-{
-    take(text, place).map(|(b, _)| b)
+impl<'a> TextReader<'a> {
+    // Initialize a TextReader.
+    pub fn new(text: &'a [u8]) -> TextReader<'a>
+        ensures { (result.text ≡ text.entry) × (result.location ≡ start) }
+    {
+        TextReader {
+            text,
+            location: beginning(),
+        }
+    }
+
+    // The place after the bytes taken.
+    pub fn loc(&self) -> TextLocation
+        ensures { result ≡ self.now.location }
+    {
+        self.location
+    }
+
+    // Whether the text has no such place: a byte past its end, a start that is not the byte less the column, or a line that so few bytes do not reach.
+    pub fn is_foreign(&self) -> bool
+        ensures { result ≡ foreign self.now }
+    {
+        if (self.text.len() as u64) < self.location.byte.0 {
+            return true;
+        }
+        !is_sound(self.location)
+    }
+
+    // Whether the text has n bytes or more from the place's byte on, whatever its other numbers.
+    pub fn reaches(&self, n: u64) -> bool
+        ensures { result ≡ reaching n self.now }
+    {
+        let size = self.text.len() as u64;
+        if size < n {
+            return false;
+        }
+        self.location.byte.0 <= size - n
+    }
+
+    // Whether the place is not foreign and n bytes or more stand from it on.
+    pub fn has_left(&self, n: u64) -> bool
+        ensures { result ≡ left n self.now }
+    {
+        if self.reaches(n) {
+            return is_sound(self.location);
+        }
+        false
+    }
+
+    // Consume the next byte. At the end, and at a foreign place, nothing. The newline is tested here again and not by `past_byte`: so the
+    // test stays a branch, and is gone where the byte is known.
+    pub fn next(&mut self) -> Option<u8>
+        ensures { (result ≡ next_of self.old) × (self.new ≡ moved_on self.old) }
+    {
+        let b = self.peek()?;
+        if b == b'\n' {
+            self.location = past_line(self.location, 0);
+        } else {
+            self.location = along(self.location, 1);
+        }
+        Some(b)
+    }
+
+    // Peek at the next byte. At the end, nothing.
+    pub fn peek(&self) -> Option<u8>
+        ensures { result ≡ next_of self.now }
+    {
+        let at = self.location.byte.0;
+        if at >= self.text.len() as u64 {
+            return None;
+        }
+        if is_sound(self.location) {
+            Some(self.text[at as usize])
+        } else {
+            None
+        }
+    }
+
+    // Past the byte b, which was looked at.
+    pub fn pass(&mut self, b: u8)
+        ensures { self.new ≡ passed b self.old }
+    {
+        self.location = past_byte(self.location, b);
+    }
+
+    // Past n bytes of a line.
+    pub fn pass_along(&mut self, n: u64)
+        ensures { self.new ≡ passed_along n self.old }
+    {
+        self.location = along(self.location, n);
+    }
+
+    // Past n more bytes of a line and its newline.
+    pub fn pass_line(&mut self, n: u64)
+        ensures { self.new ≡ passed_line n self.old }
+    {
+        self.location = past_line(self.location, n);
+    }
 }

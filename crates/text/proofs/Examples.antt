@@ -2,9 +2,8 @@
 use Rattle.std.specs.Prelude.{ℕ, ◌≡◌, refl, List, [], ◌∷◌, map, Option, Some, None}
 use Rattle.text.specs.Ascii.{ascii}
 use Rattle.text.specs.declared.TextLocation.{TextLocation}
-use Rattle.text.specs.Place.{start, place_of, rest, after}
-use Rattle.text_reader.specs.declared.Moved.{Moved}
-use Rattle.text_reader.specs.TextReader.{moved_at}
+use Rattle.text.specs.Place.{start, place_of, rest, after, peeked_at}
+use Rattle.text.specs.TextReader.{onward_at}
 
 abbrev line : List ℕ
 line = ascii "#define d_width 9\n"
@@ -12,10 +11,11 @@ line = ascii "#define d_width 9\n"
 -- a place; what is there, and the place after it
 record Row : Type 0 where
   place : TextLocation
-  answer : Moved
+  answer : Option ℕ
+  next : TextLocation
 
 abbrev row : TextLocation → Option ℕ → TextLocation → Row
-row p a q = record { place = p; answer = record { location = q; answer = a } }
+row p a q = record { place = p; answer = a; next = q }
 
 abbrev rows : List Row
 rows =
@@ -36,6 +36,9 @@ rows =
     ∷ row (place_of 5 1 5 18446744073709551615) None (place_of 5 1 5 18446744073709551615)
     ∷ []
 
-pub table : map (λ r. moved_at line r.place) rows ≡ map (λ r. r.answer) rows
+abbrev met : Row → Row
+met r = row r.place (peeked_at line r.place) (onward_at line r.place)
+
+pub table : map met rows ≡ rows
 unfolding rest after
 table = refl
