@@ -1,26 +1,27 @@
 -- What a step of the code says of the lexical rules.
-use Prim.Native.Nat.{ℕ, ◌+◌, ◌*◌, ◌^◌, ◌<◌, ◌≤◌}
+use Prim.Native.Nat.{ℕ, suc, ◌+◌, ◌*◌, ◌^◌, ◌<◌, ◌≤◌}
 use native.Mathlib.Numerals.{add-one}
 use native.Mathlib.Omega.{arith}
-use borrow.Author.Tests.{eq-eqb, ne_eqb}
-use mathlib.Core.Path.{◌≡◌, refl, ap, ◌∙◌}
-use mathlib.Core.Option.{some}
+use mathlib.Core.Path.{◌≡◌, refl, sym, ap, ◌∙◌}
+use mathlib.Core.Option.{Option, none, some}
 use mathlib.Core.List.{List}
 use mathlib.Core.Bool.{Bool, true, false}
 use lib.ListN.{length, drop, get_or, drop_of_length-le}
 use lib.Seq.{drop-cons}
 use Rattle.std.specs.Prelude.{Option as Taken, Some, None, ok_or, Result as Answer, Ok, Err, IsErrAnd}
 use Rattle.std.proofs.lemmas.Result.{err_from_is_err_and}
-use Rattle.text.specs.declared.TextLocation.{TextLocation}
-use Rattle.text.specs.Place.{past_byte, took_at}
-use Rattle.text.specs.Reader.{Result, ok, stop, Reader, ◌>>=◌}
-use Rattle.text.specs.Leaf.{give}
-use Rattle.text.proofs.Laws.{next-less, next_past}
-use Rattle.text.proofs.Reading.{bind_ok, bind-stop, bind_laws, one_ok, one-past, one-stop, one_end, run_on, run-stay, run_end}
+use Rattle.text.specs.declared.TextReader.{TextReader}
+use Rattle.text.specs.Place.{after, rest}
+use Rattle.text.specs.TextReader.{next_of, moved_to, moved_on, passed}
+use Rattle.text.specs.Reader.{ok, stop, end_of, Reader, ◌>>=◌}
+use Rattle.text.specs.Leaf.{give, one}
+use Rattle.text.proofs.Laws.{next-less, end-onward, reader_passed, reader-moved}
+use Rattle.text.proofs.Reading.{one_ok, one-stop, one_end, run_on, run-stay, run_end}
 use Rattle.lexical.specs.declared.ParseError.{ParseError}
 use Rattle.lexical.specs.declared.XbmPart.{XbmPart}
 use Rattle.lexical.specs.declared.XbmPart.TheVariants.{Width, Height, HotspotX, HotspotY, Array, Data, ArrayEnd, Trailing}
-use Rattle.lexical.specs.Lexical.{number, told, told_byte, when, is, any_byte, byte, while, skip, fixed}
+use Rattle.lexical.specs.Lexical.{number, broken, when, is, any_byte, byte, while, skip, fixed}
+use Rattle.lexical.specs.Reads.{Reads}
 
 -- a part's number
 pub number_small : (part : XbmPart) → number part ≤ 8
@@ -33,115 +34,145 @@ number_small Data = omega arith
 number_small ArrayEnd = omega arith
 number_small Trailing = omega arith
 
--- an answer that is matched on, at the end of a reading and in the middle of one
-module _ {d : Result (Unit {0})} {m : Answer TextLocation ParseError} (e : told m ≡ d) where
-  pub told-to : {a : TextLocation} → m ≡ Ok a → ok tt a ≡ d
-  told-to h = rw h at e
-
-  pub told-refused : {x : ParseError} → m ≡ Err x → stop (number x.part) x.place ≡ d
-  told-refused h = rw h at e
-
-module _ {B : Type 0} (p : Reader (Unit {0})) (f : Unit {0} → Reader B) (t : List ℕ) (i : TextLocation) {m : Answer TextLocation ParseError} {z : Result B} (e : told m ≡ p t i) where
-  pub pass-to : {a : TextLocation} → m ≡ Ok a → z ≡ f tt t a → z ≡ (p >>= f) t i
-  pass-to h k = bind_ok p f t i (told-to e h) k
-
-  pub pass-refused : {x : ParseError} → m ≡ Err x → z ≡ stop (number x.part) x.place → z ≡ (p >>= f) t i
-  pass-refused h k = bind-stop p f t i (told-refused e h) k
-
 -- what the exit of a `?` hands back
 pub refused-as : {A E : Type 0} {r : Answer A E} {x : E} → IsErrAnd r (λ e. e ≡ x) → r ≡ Err x
 refused-as {A} {E} {r} {x} h = let p = err_from_is_err_and {Q = λ e. e ≡ x} r h in p.1 ∙ ap (λ e. Err e) p.2
 
-pub told-err : {r : Answer TextLocation ParseError} {x : ParseError} → r ≡ Err x → told r ≡ stop (number x.part) x.place
-told-err h = rw h
+-- a reading by what p gives at the reader's place
+module _ {A : Type 0} {p : Reader A} {r₀ r₁ : TextReader} (k : r₁.text ≡ r₀.text) where
+  pub reads-value : {a : A} → ok a r₁.location ≡ p r₀.text.now r₀.location → Reads p r₀ r₁ (Ok a)
+  reads-value e = record { kept = k; answer = e; stands = ap end_of (sym e) }
 
-pub byte-err : {r : Answer (ℕ × TextLocation) ParseError} {x : ParseError} → r ≡ Err x → told_byte r ≡ stop (number x.part) x.place
-byte-err h = rw h
+  pub reads-refusal : {x : ParseError} → x.place ≡ r₁.location → stop (number x.part) x.place ≡ p r₀.text.now r₀.location → Reads p r₀ r₁ (Err x)
+  reads-refusal s e = record { kept = k; answer = e; stands = ap end_of (sym e) ∙ s }
 
--- a row of readings, each handed on by `?`
-pub ruleset chain_laws = (told-err, byte-err, bind_laws)
+-- one reading after another
+module _ {A B : Type 0} (p : Reader A) (f : A → Reader B) {r₀ r₁ : TextReader} {m : Answer A ParseError} (h : Reads p r₀ r₁ m) where
+  pub reads-then : {a : A} {r₂ : TextReader} {z : Answer B ParseError} → m ≡ Ok a → Reads (f a) r₁ r₂ z → Reads (p >>= f) r₀ r₂ z
+  unfolding ◌>>=◌
+  reads-then {a} g k =
+      let e : ok a r₁.location ≡ p r₀.text.now r₀.location = rw g at h.answer in
+      let t = h.kept in
+      record { kept = k.kept ∙ t; answer = rw (← e, ← t) k.answer; stands = rw (← e, ← t) k.stands }
 
-module _ {B : Type 0} (p : Reader (Unit {0})) (f : Unit {0} → Reader B) (t : List ℕ) (i : TextLocation) {m : Answer TextLocation ParseError} (e : told m ≡ p t i) {x : ParseError} (h : m ≡ Err x) where
-  pub exit-to : {r : Answer TextLocation ParseError} (g : Unit {0} → Reader (Unit {0})) → r ≡ Err x → told r ≡ (p >>= g) t i
-  exit-to g k = rw k (bind-stop p g t i (told-refused e h) refl)
+  pub reads-refused : {x : ParseError} {z : Answer B ParseError} → m ≡ Err x → z ≡ Err x → Reads (p >>= f) r₀ r₁ z
+  unfolding ◌>>=◌
+  reads-refused {x} g k =
+      let e : stop (number x.part) x.place ≡ p r₀.text.now r₀.location = rw g at h.answer in
+      record { kept = h.kept; answer = rw (k, ← e); stands = rw (← e) (ap end_of e ∙ h.stands) }
 
--- any byte
-pub any-taken : (part : XbmPart) (t : List ℕ) (i : TextLocation) (m : Answer (ℕ × TextLocation) ParseError) (r : Taken (ℕ × TextLocation)) → r ≡ took_at t i
-    → m ≡ ok_or r (record { part = part; place = i }) → told_byte m ≡ any_byte (number part) t i
+-- after one that is not refused
+pub reads-after : {A B : Type 0} (p : Reader A) (f : A → Reader B) {r₀ r₁ r₂ : TextReader} {a : A} {z : Answer B ParseError} → Reads p r₀ r₁ (Ok a) → Reads (f a) r₁ r₂ z → Reads (p >>= f) r₀ r₂ z
+reads-after p f h k = reads-then p f h refl k
+
+pub reads-give : {A : Type 0} {r : TextReader} {a v : A} → v ≡ a → Reads (give a) r r (Ok v)
+unfolding give
+reads-give e = record { kept = refl; answer = rw e; stands = refl }
+
+pub ruleset reads_laws = (reads-then, reads-after, reads-refused, reads-give)
+
+-- a byte, looked at and then passed
+module _ {A : Type 0} (c : ℕ) (g : ℕ → Option A) {r₀ r₁ : TextReader} {m : Taken ℕ} (e : m ≡ next_of r₀) {b : ℕ} (h : m ≡ Some b) (k : r₁ ≡ moved_to (after b r₀.location) r₀) where
+  pub one-value : {a : A} → g b ≡ some a → Reads (one c g) r₀ r₁ (Ok a)
+  one-value {a} v = reads-value (ap (λ r. r.text) k) (ap (λ (r : TextReader). ok a r.location) k ∙ one_ok c g r₀.text.now r₀.location e h v)
+
+  pub one-refusal : {x : ParseError} → number x.part ≡ c → x.place ≡ r₁.location → g b ≡ none → Reads (one c g) r₀ r₁ (Err x)
+  one-refusal n s v =
+      reads-refusal (ap (λ r. r.text) k) s (rw (n, s, ap (λ (r : TextReader). r.location) k) (one-stop c g r₀.text.now r₀.location e h v))
+
+pub one-lacks : {A : Type 0} (c : ℕ) (g : ℕ → Option A) {r : TextReader} {m : Taken ℕ} → m ≡ next_of r → m ≡ None → {x : ParseError} → number x.part ≡ c → x.place ≡ r.location → Reads (one c g) r r (Err x)
+one-lacks c g {r} e h n s = reads-refusal refl s (rw (n, s) (one_end c g r.text.now r.location e h))
+
+-- a byte of a class
+module _ (class : ℕ → Bool) {r₀ : TextReader} {m : Taken ℕ} (e : m ≡ next_of r₀) where
+  module _ {r₁ : TextReader} {b : ℕ} (h : m ≡ Some b) (l : length r₀.text.now * 1 < 2 ^ 63) (k : r₁ ≡ passed b r₀) {w : Bool} (t : w ≡ class b) where
+    pub byte-yes : (c : ℕ) → w ≡ true → Reads (byte c class) r₀ r₁ (Ok tt)
+    unfolding byte
+    byte-yes c y = one-value c (λ b. when (class b)) e h (reader_passed r₀ e h l k) (rw (← t, y))
+
+    pub byte-not : (part : XbmPart) {x : ParseError} → w ≡ false → x ≡ broken part r₁.location → Reads (byte (number part) class) r₀ r₁ (Err x)
+    unfolding byte
+    byte-not part y s =
+        one-refusal (number part) (λ b. when (class b)) e h (reader_passed r₀ e h l k) (ap (λ (x : ParseError). number x.part) s) (ap (λ (x : ParseError). x.place) s) (rw (← t, y))
+
+  pub byte-end : (part : XbmPart) {x : ParseError} → m ≡ None → x ≡ broken part r₀.location → Reads (byte (number part) class) r₀ r₀ (Err x)
+  unfolding byte
+  byte-end part h s = one-lacks (number part) (λ b. when (class b)) e h (ap (λ (x : ParseError). number x.part) s) (ap (λ (x : ParseError). x.place) s)
+
+pub ruleset byte_laws = (byte-yes, byte-not, byte-end)
+
+-- what q gives at the reader r is what p gives at r₀, as in a loop that has begun at r₀ and stands at r
+pub record Leads {A : Type 0} (p : Reader A) (r₀ : TextReader) (q : Reader A) (r : TextReader) : Type 0 where
+  pub kept : r.text ≡ r₀.text
+  pub same : q r.text.now r.location ≡ p r₀.text.now r₀.location
+
+pub leads-begin : {A : Type 0} (p : Reader A) {r : TextReader} → Leads p r p r
+leads-begin p = record { kept = refl; same = refl }
+
+module _ {A : Type 0} {p q : Reader A} {r₀ r : TextReader} (h : Leads p r₀ q r) where
+  pub leads-reads : {r' : TextReader} {m : Answer A ParseError} → Reads q r r' m → Reads p r₀ r' m
+  leads-reads k = record { kept = k.kept ∙ h.kept; answer = k.answer ∙ h.same; stands = ap end_of (sym h.same) ∙ k.stands }
+
+  pub leads-on : {q' : Reader A} {r' : TextReader} → r'.text ≡ r.text → q' r'.text.now r'.location ≡ q r.text.now r.location → Leads p r₀ q' r'
+  leads-on k e = record { kept = k ∙ h.kept; same = e ∙ h.same }
+
+-- a reader at which a text goes on is short enough to be passed over
+module _ (r₀ r : TextReader) (l : length r₀.text.now * 1 < 2 ^ 63) (k : r.text ≡ r₀.text) {m : Taken ℕ} (e : m ≡ next_of r) {b : ℕ} (h : m ≡ Some b) {r₁ : TextReader} (t : r₁ ≡ passed b r) where
+  pub passed-kept : r₁ ≡ moved_to (after b r.location) r
+  passed-kept = reader_passed r e h (rw (ap (λ s. length s.now * 1) k) l) t
+
+  pub remains-less : length (rest r₁.text.now r₁.location) < length (rest r.text.now r.location)
+  remains-less = rw (ap (λ r. r.text) passed-kept) (next-less r.text.now r.location e h (ap (λ r. r.location) passed-kept))
+
+pub passed-text : (r₀ r : TextReader) (b : ℕ) {r₁ : TextReader} → r₁ ≡ passed b r → r.text ≡ r₀.text → r₁.text ≡ r₀.text
+passed-text r₀ r b t k = ap (λ r. r.text) t ∙ k
+
+-- a run of a class
+module _ (class : ℕ → Bool) {r : TextReader} {m : Taken ℕ} (e : m ≡ next_of r) where
+  pub skip-again : {p : Reader (Unit {0})} {r₀ r₁ : TextReader} {b : ℕ} {w : Bool} → Leads p r₀ (skip class) r → length r₀.text.now * 1 < 2 ^ 63 → m ≡ Some b → r₁ ≡ passed b r → w ≡ class b → w ≡ true
+      → Leads p r₀ (skip class) r₁
+  unfolding skip
+  skip-again {r₀ = r₀} i l h k t y =
+      let z = passed-kept r₀ r l i.kept e h k in
+      leads-on i (ap (λ r. r.text) z) (rw z (run_on 0 (while class) (λ s. some tt) tt r.text.now r.location e h (rw (← t, y)) refl))
+
+  pub skip_stop : {b : ℕ} {w : Bool} → m ≡ Some b → w ≡ class b → w ≡ false → Reads (skip class) r r (Ok tt)
+  unfolding skip
+  skip_stop h t n = reads-value refl (run-stay 0 (while class) (λ s. some tt) tt r.text.now r.location e h (rw (← t, n)) refl)
+
+  pub skip-end : m ≡ None → Reads (skip class) r r (Ok tt)
+  unfolding skip
+  skip-end h = reads-value refl (run_end 0 (while class) (λ s. some tt) tt r.text.now r.location e h refl refl)
+
+pub ruleset skip_laws = (skip-again, skip_stop, skip-end, leads-reads, leads-begin, remains-less, passed-text)
+
+-- any byte, taken
+pub any-taken : (part : XbmPart) (r₀ : TextReader) {r₁ : TextReader} {m : Taken ℕ} {x : ParseError} {z : Answer ℕ ParseError} → m ≡ next_of r₀ → length r₀.text.now * 1 < 2 ^ 63 → r₁ ≡ moved_on r₀
+    → x ≡ broken part r₁.location → z ≡ ok_or m x → Reads (any_byte (number part)) r₀ r₁ z
 unfolding any_byte
-any-taken part t i m None e h = rw h (one_end (number part) (λ b. some b) t i e refl)
-any-taken part t i m (Some x) e h = rw h (one_ok (number part) (λ b. some b) t i e refl refl)
+any-taken part r₀ {r₁ = r₁} {m = m} {x = x} {z = z} e l k s t = go m refl
+  where
+    go : (n : Taken ℕ) → m ≡ n → Reads (one (number part) (λ b. some b)) r₀ r₁ z
+    go None h =
+        let w : r₁ ≡ r₀ = k ∙ ap (λ p. moved_to p r₀) (end-onward r₀.text.now r₀.location e h) in
+        rw (t, h, w) (one-lacks (number part) (λ b. some b) e h (ap (λ (x : ParseError). number x.part) s) (ap (λ (x : ParseError). x.place) s ∙ ap (λ (r : TextReader). r.location) w))
+    go (Some b) h = rw (t, h) (one-value (number part) (λ b. some b) e h (reader-moved r₀ e h l k) refl)
 
--- a byte of a class, or the byte x
-module _ (c : ℕ) (class : ℕ → Bool) (t : List ℕ) (i : TextLocation) {r : Taken (ℕ × TextLocation)} (e : r ≡ took_at t i) where
-  pub byte-yes : {b : ℕ} {q : TextLocation} {w : Bool} → r ≡ Some (b, q) → w ≡ class b → w ≡ true → ok tt q ≡ byte c class t i
-  unfolding byte
-  byte-yes m h k = one_ok c (λ b. when (class b)) t i e m (rw (← h, k))
+-- bytes that are read one after another: those of w from the nth on are left
+module _ (c : ℕ) (w : List ℕ) (n : ℕ) {r₀ r : TextReader} (i : Leads (fixed c w) r₀ (fixed c (drop n w)) r) where
+  pub fixed-done : length w ≤ n → Reads (fixed c w) r₀ r (Ok tt)
+  unfolding fixed
+  fixed-done l = leads-reads i (rw (drop_of_length-le w l) (reads-give refl))
 
-  pub byte_past : {b : ℕ} {q p : TextLocation} {w : Bool} → length t * 1 < 2 ^ 63 → r ≡ Some (b, q) → p ≡ past_byte i b → w ≡ class b → w ≡ true → ok tt p ≡ byte c class t i
-  unfolding byte
-  byte_past l m s h k = one-past c (λ b. when (class b)) t i l e m s (rw (← h, k))
-
-  pub byte-not : {b : ℕ} {q : TextLocation} {w : Bool} → r ≡ Some (b, q) → w ≡ class b → w ≡ false → stop c q ≡ byte c class t i
-  unfolding byte
-  byte-not m h k = one-stop c (λ b. when (class b)) t i e m (rw (← h, k))
-
-  pub byte-end : r ≡ None → stop c i ≡ byte c class t i
-  unfolding byte
-  byte-end m = one_end c (λ b. when (class b)) t i e m
-
-module _ (c x : ℕ) (t : List ℕ) (i : TextLocation) {r : Taken (ℕ × TextLocation)} {b : ℕ} {q : TextLocation} (e : r ≡ took_at t i) (m : r ≡ Some (b, q)) where
-  pub byte-is : b ≡ x → ok tt q ≡ byte c (is x) t i
-  byte-is h = byte-yes c (is x) t i e m refl (eq-eqb b x h)
-
-  pub byte-other : (b ≡ x → ⊥) → stop c q ≡ byte c (is x) t i
-  byte-other h = byte-not c (is x) t i e m refl (ne_eqb b x h)
-
--- the same with more to read
-module _ {B : Type 0} (c : ℕ) (class : ℕ → Bool) (f : Unit {0} → Reader B) (t : List ℕ) (i : TextLocation) {r : Taken (ℕ × TextLocation)} {z : Result B} (e : r ≡ took_at t i) where
-  pub then-yes : {b : ℕ} {q : TextLocation} {w : Bool} → r ≡ Some (b, q) → w ≡ class b → w ≡ true → z ≡ f tt t q → z ≡ (byte c class >>= f) t i
-  then-yes m h k = bind_ok (byte c class) f t i (byte-yes c class t i e m h k)
-
-  pub then-not : {b : ℕ} {q : TextLocation} {w : Bool} → r ≡ Some (b, q) → w ≡ class b → w ≡ false → z ≡ stop c q → z ≡ (byte c class >>= f) t i
-  then-not m h k = bind-stop (byte c class) f t i (byte-not c class t i e m h k)
-
-  pub then-end : r ≡ None → z ≡ stop c i → z ≡ (byte c class >>= f) t i
-  then-end m = bind-stop (byte c class) f t i (byte-end c class t i e m)
-
-pub ruleset byte_laws = (byte-yes, byte_past, byte-not, byte-end, byte-is, byte-other, then-yes, then-not, then-end, bind_laws)
-
--- a run of a class; z is what the whole run gives
-module _ (class : ℕ → Bool) (t : List ℕ) (i : TextLocation) {z : Result (Unit {0})} {r : Taken (ℕ × TextLocation)} (e : r ≡ took_at t i) where
-  pub skip-again : {b : ℕ} {q : TextLocation} {w : Bool} → r ≡ Some (b, q) → w ≡ class b → w ≡ true → skip class t i ≡ z → skip class t q ≡ z
-  unfolding skip
-  skip-again m h k = run_on 0 (while class) (λ s. some tt) tt t i e m (rw (← h, k))
-
-  pub skip_stop : {b : ℕ} {q : TextLocation} {w : Bool} → r ≡ Some (b, q) → w ≡ class b → w ≡ false → skip class t i ≡ z → ok tt i ≡ z
-  unfolding skip
-  skip_stop m h k = run-stay 0 (while class) (λ s. some tt) tt t i e m (rw (← h, k))
-
-  pub skip-end : r ≡ None → skip class t i ≡ z → ok tt i ≡ z
-  unfolding skip
-  skip-end m = run_end 0 (while class) (λ s. some tt) tt t i e m refl
-
-pub ruleset skip_laws = (skip-again, skip_stop, skip-end, next-less)
-
--- n bytes of w are read, and one more is read as m; z is what reading all of w gives
-module _ (c : ℕ) (w : List ℕ) (n : ℕ) (t : List ℕ) (i : TextLocation) {z : Result (Unit {0})} where
-  pub fixed-done : length w ≤ n → fixed c (drop n w) t i ≡ z → ok tt i ≡ z
-  unfolding fixed give
-  fixed-done l v = rw (drop_of_length-le w l) at v
-
-  module _ {m : Answer TextLocation ParseError} (e : told m ≡ byte c (is (get_or w n 0)) t i) (l : n < length w) where
-    pub fixed-again : {p : TextLocation} → m ≡ Ok p → fixed c (drop n w) t i ≡ z → fixed c (drop (n + 1) w) t p ≡ z
+  module _ {r₁ : TextReader} {m : Answer (Unit {0}) ParseError} (e : Reads (byte c (is (get_or w n 0))) r r₁ m) (l : n < length w) where
+    pub fixed-again : m ≡ Ok tt → Leads (fixed c w) r₀ (fixed c (drop (n + 1) w)) r₁
     unfolding fixed ◌>>=◌
-    fixed-again h v = rw add-one (rw (drop-cons w n 0 l, ← told-to e h) at v)
+    fixed-again h =
+        let k : ok tt r₁.location ≡ byte c (is (get_or w n 0)) r.text.now r.location = rw h at e.answer in
+        leads-on i e.kept (rw (add-one, drop-cons w n 0 l, ← k, ← e.kept))
 
-    pub fixed-wrong : {x : ParseError} {r : Answer TextLocation ParseError} → m ≡ Err x → r ≡ Err x → fixed c (drop n w) t i ≡ z → told r ≡ z
-    unfolding fixed ◌>>=◌
-    fixed-wrong h k v = rw k (rw (drop-cons w n 0 l, ← told-refused e h) at v)
+    pub fixed-wrong : {x : ParseError} {z : Answer (Unit {0}) ParseError} → m ≡ Err x → z ≡ Err x → Reads (fixed c w) r₀ r₁ z
+    unfolding fixed
+    fixed-wrong h k = leads-reads i (rw (drop-cons w n 0 l) (reads-refused (byte c (is (get_or w n 0))) (λ a. fixed c (drop (suc n) w)) e h k))
 
-pub ruleset fixed_laws = (fixed-again, fixed-wrong, fixed-done)
-
--- readings in a row
-pub ruleset pass_laws = (pass-to, pass-refused, exit-to, told-to, told-refused, bind_laws)
+pub ruleset fixed_laws = (fixed-again, fixed-wrong, fixed-done, leads-begin)

@@ -1,118 +1,79 @@
--- Laws of a token being stored.
-use Prim.Native.Nat.{ℕ, ◌+◌, ◌-◌, ◌<◌, ◌≤◌}
-use native.Mathlib.Numerals.{add-one}
+-- Laws of a token being taken.
+use Prim.Native.Nat.{ℕ, ◌-◌, ◌*◌, ◌^◌, ◌<◌, ◌≤◌}
 use native.Mathlib.Omega.{arith}
 use borrow.Author.Tests.{lt-ltb, le-ltb}
-use lib.Dec.{ltb}
-use mathlib.Core.Path.{◌≡◌, refl, sym, ap, ◌∙◌}
+use mathlib.Core.Path.{◌≡◌, refl, ap, ◌∙◌}
 use mathlib.Core.Option.{some}
-use mathlib.Core.List.{List, ◌++◌, append_assoc}
+use mathlib.Core.List.{List, [], ◌∷◌, ◌++◌}
 use mathlib.Core.Bool.{Bool, true, false}
-use lib.ListN.{length, take, drop, set, length-set, take-append-drop}
-use lib.Seq.{take-suc-set, drop-set-lt, drop-drop, length-take-le, take_at}
-use Rattle.std.specs.Prelude.{Option as Taken, Some, None, Result as Answer, Ok, Err}
+use lib.ListN.{length, take, drop}
+use lib.Dec.{ltb}
+use Rattle.std.proofs.lemmas.List.Edits.{between_more}
+use Rattle.std.specs.Prelude.{Option as Taken, Some, None, Ok, Err}
 use Rattle.text.specs.declared.TextLocation.{TextLocation}
-use Rattle.text.specs.Place.{rest, after, byte_of, took_at}
-use Rattle.text.specs.Reader.{Result, stop, end_of, Reader, ◌>>=◌}
+use Rattle.text.specs.declared.TextReader.{TextReader}
+use Rattle.text.specs.Place.{after, byte_of}
+use Rattle.text.specs.TextReader.{next_of, moved_to, passed, since}
 use Rattle.text.specs.Leaf.{run}
-use Rattle.text.proofs.Laws.{next-rest, next-after}
-use Rattle.text.proofs.Reading.{bind_ok, bind-stop, run_on, run-stay, run-halt, run_end}
+use Rattle.text.proofs.Laws.{next-at}
+use Rattle.text.proofs.Reading.{run_on, run-stay, run-halt, run_end}
 use Rattle.lexical.specs.declared.ParseError.{ParseError}
 use Rattle.lexical.specs.declared.XbmPart.{XbmPart}
-use Rattle.lexical.specs.Lexical.{number}
-use Rattle.lexical.specs.Token.{up_to, token, told_token, size_of, span, Tokened}
+use Rattle.lexical.specs.Lexical.{number, broken}
+use Rattle.lexical.specs.Token.{up_to, token}
+use Rattle.lexical.specs.Reads.{Reads}
+use Rattle.lexical.proofs.Laws.{passed-kept, reads-value, reads-refusal}
 
--- n bytes from p₀ on stand at buf's start, p is the place after them, and the token goes on from there
-pub record Storing (ends : ℕ → Bool) (c : ℕ) (s buf₀ : List ℕ) (p₀ : TextLocation) (buf : List ℕ) (p : TextLocation) (n : ℕ) : Type 0 where
-  pub room : n ≤ length buf₀
-  pub size : length buf ≡ length buf₀
-  pub whole : rest s p₀ ≡ take n buf ++ rest s p
-  pub came : byte_of p ≡ byte_of p₀ + n
-  pub kept : drop n buf ≡ drop n buf₀
-  pub left : run c (up_to ends (length buf₀)) (λ w. some w) (take n buf) s p ≡ token ends c (length buf₀) s p₀
+-- the bytes from `start`, where r₀ stands, up to where r stands are taken, and the token goes on from there
+pub record Taking (ends : ℕ → Bool) (c lim : ℕ) (r₀ : TextReader) (start : TextLocation) (r : TextReader) : Type 0 where
+  pub kept : r.text ≡ r₀.text
+  pub began : start ≡ r₀.location
+  pub came : byte_of start ≤ byte_of r.location
+  pub left : run c (up_to ends lim) (λ w. some w) (since start r) r.text.now r.location ≡ token ends c lim r₀.text.now r₀.location
 
-module _ (ends : ℕ → Bool) (c : ℕ) (s buf₀ : List ℕ) (p₀ : TextLocation) where
-  pub storing-none : Storing ends c s buf₀ p₀ buf₀ p₀ 0
+zero-of : (n : ℕ) → n - n ≡ 0
+zero-of n = omega arith
+
+-- the bytes since a place where nothing was taken; and with one byte more
+since-none : (p : TextLocation) (r : TextReader) → p ≡ r.location → since p r ≡ []
+since-none p r e = rw e (ap (λ n. take n (drop (byte_of r.location) r.text.now)) (zero-of (byte_of r.location)))
+
+since-more : (p : TextLocation) (r : TextReader) {m : Taken ℕ} → m ≡ next_of r → {b : ℕ} → m ≡ Some b → byte_of p ≤ byte_of r.location → since p (moved_to (after b r.location) r) ≡ since p r ++ (b ∷ [])
+unfolding after
+since-more p r e h l =
+    let a = next-at r.text.now r.location e h in
+    rw (← a.1) (between_more r.text.now (byte_of p) (byte_of r.location) 0 l a.0)
+
+module _ (ends : ℕ → Bool) (c lim : ℕ) (r₀ : TextReader) (start : TextLocation) where
+  pub taking-begin : start ≡ r₀.location → Taking ends c lim r₀ start r₀
   unfolding token
-  storing-none = record { room = omega arith; size = refl; whole = refl; came = omega arith; kept = refl; left = refl }
+  taking-begin e = record { kept = refl; began = e; came = omega (arith, ap byte_of e); left = rw (since-none start r₀ e) }
 
-  module _ (buf : List ℕ) (p : TextLocation) (n : ℕ) where
-    length_taken : Storing ends c s buf₀ p₀ buf p n → length (take n buf) ≡ n
-    length_taken i = length-take-le n buf (omega (arith, i.room, i.size))
+  module _ (r : TextReader) (i : Taking ends c lim r₀ start r) where
+    module _ {m : Taken ℕ} (e : m ≡ next_of r) where
+      pub taking-more : {b : ℕ} {t : Bool} {r₁ : TextReader} {w : List ℕ} → m ≡ Some b → t ≡ ends b → t ≡ false → w ≡ since start r → length w < lim → r₁ ≡ passed b r → length r₀.text.now * 1 < 2 ^ 63 → Taking ends c lim r₀ start r₁
+      unfolding after
+      taking-more {b = b} h y n v l k s =
+          let z : _ ≡ moved_to (after b r.location) r = passed-kept r₀ r s i.kept e h k in
+          let g : ltb (length (since start r)) lim ≡ true = lt-ltb (length (since start r)) lim (rw v at l) in
+          let o : byte_of start ≤ byte_of r.location = i.came in
+          record {
+            kept = ap (λ r. r.text) z ∙ i.kept;
+            began = i.began;
+            came = rw z (omega (arith, o));
+            left = rw z (rw (since-more start r e h o) (run_on c (up_to ends lim) (λ w. some w) (since start r) r.text.now r.location e h (rw (← y, n, g)) i.left));
+          }
 
-    pub storing-more : {r : Taken (ℕ × TextLocation)} {b : ℕ} {q : TextLocation} {t : Bool} → r ≡ took_at s p → r ≡ Some (b, q) → t ≡ ends b → t ≡ false
-        → n < length buf → Storing ends c s buf₀ p₀ buf p n → Storing ends c s buf₀ p₀ (set buf n b) q (n + 1)
-    unfolding after
-    storing-more {b = b} {q = q} e m h k l i =
-        let hs : length buf ≡ length buf₀ = i.size in
-        let hc : byte_of p ≡ byte_of p₀ + n = i.came in
-        let g : ltb (length (take n buf)) (length buf₀) ≡ true = lt-ltb (length (take n buf)) (length buf₀) (omega (arith, length_taken i)) in
-        record {
-          room = omega arith;
-          size = length-set buf n b ∙ i.size;
-          whole = rw (add-one, take-suc-set buf n b l, append_assoc, ← next-rest s p e m) i.whole;
-          came = ap byte_of (next-after s p e m) ∙ omega arith;
-          kept = rw (drop-set-lt (n + 1) buf n b (omega arith), ← drop-drop 1 n buf, ← drop-drop 1 n buf₀, i.kept);
-          left = rw (add-one, take-suc-set buf n b l) (run_on c (up_to ends (length buf₀)) (λ w. some w) (take n buf) s p e m (rw (← h, k, g)) i.left);
-        }
+      pub taking-stop : {b : ℕ} {t : Bool} {w : List ℕ} → m ≡ Some b → t ≡ ends b → t ≡ true → w ≡ since start r → Reads (token ends c lim) r₀ r (Ok w)
+      taking-stop h y n v = reads-value i.kept (rw v (run-stay c (up_to ends lim) (λ w. some w) (since start r) r.text.now r.location e h (rw (← y, n)) i.left))
 
-    -- the answer r ends the token at p
-    ended : (r : Answer (ℕ × TextLocation) ParseError) → Storing ends c s buf₀ p₀ buf p n → told_token buf r ≡ token ends c (length buf₀) s p₀ → end_of (told_token buf r) ≡ p → size_of r ≤ n
-        → Tokened ends c s p₀ buf₀ buf r
-    unfolding span
-    ended r i a e z =
-        let hr : n ≤ length buf₀ = i.room in
-        let hs : length buf ≡ length buf₀ = i.size in
-        let l : length (take n buf) ≡ n = length_taken i in
-        let d : byte_of p - byte_of p₀ ≡ n = omega (arith, i.came) in
-        record {
-          answer = a;
-          fits = omega arith;
-          stored = rw (← a, e, d, i.whole, take_at (take n buf) (rest s p) n l, l, ← i.kept, take-append-drop);
-        }
+      pub taking-end : {w : List ℕ} → m ≡ None → w ≡ since start r → Reads (token ends c lim) r₀ r (Ok w)
+      taking-end h v = reads-value i.kept (rw v (run_end c (up_to ends lim) (λ w. some w) (since start r) r.text.now r.location e h refl i.left))
 
-    module _ (i : Storing ends c s buf₀ p₀ buf p n) {r : Taken (ℕ × TextLocation)} (e : r ≡ took_at s p) where
-      pub storing-stop : {b : ℕ} {q : TextLocation} {t : Bool} → r ≡ Some (b, q) → t ≡ ends b → t ≡ true → Tokened ends c s p₀ buf₀ buf (Ok (n, p))
-      storing-stop m h k =
-          ended (Ok (n, p)) i (run-stay c (up_to ends (length buf₀)) (λ w. some w) (take n buf) s p e m (rw (← h, k)) i.left) refl (omega arith)
+pub taking-full : (ends : ℕ → Bool) (part : XbmPart) (lim : ℕ) (r₀ : TextReader) (start : TextLocation) (r : TextReader) {m : Taken ℕ} {b : ℕ} {t : Bool} {x : ParseError} → Taking ends (number part) lim r₀ start r → m ≡ next_of r
+    → m ≡ Some b → t ≡ ends b → t ≡ false → lim ≤ length (since start r) → x ≡ broken part r.location → Reads (token ends (number part) lim) r₀ r (Err x)
+taking-full ends part lim r₀ start r {x = x} i e h y n l s =
+    reads-refusal i.kept (ap (λ (x : ParseError). x.place) s)
+    (rw s (run-halt (number part) (up_to ends lim) (λ w. some w) (since start r) r.text.now r.location e h (rw (← y, n, le-ltb (length (since start r)) lim l)) i.left))
 
-      pub storing-end : r ≡ None → Tokened ends c s p₀ buf₀ buf (Ok (n, p))
-      storing-end m = ended (Ok (n, p)) i (run_end c (up_to ends (length buf₀)) (λ w. some w) (take n buf) s p e m refl i.left) refl (omega arith)
-
-pub storing-full : (ends : ℕ → Bool) (part : XbmPart) (s buf₀ : List ℕ) (p₀ : TextLocation) (buf : List ℕ) (p : TextLocation) (n : ℕ) {r : Taken (ℕ × TextLocation)} {b : ℕ} {q : TextLocation} {t : Bool}
-    → Storing ends (number part) s buf₀ p₀ buf p n → r ≡ took_at s p → r ≡ Some (b, q) → t ≡ ends b → t ≡ false → length buf ≤ n
-    → Tokened ends (number part) s p₀ buf₀ buf (Err (record { part = part; place = p }))
-storing-full ends part s buf₀ p₀ buf p n i e m h k l =
-    let hs : length buf ≡ length buf₀ = i.size in
-    let g : ltb (length (take n buf)) (length buf₀) ≡ false = le-ltb (length (take n buf)) (length buf₀) (omega (arith, length_taken ends (number part) s buf₀ p₀ buf p n i)) in
-    ended ends (number part) s buf₀ p₀ buf p n (Err (record { part = part; place = p })) i
-    (run-halt (number part) (up_to ends (length buf₀)) (λ w. some w) (take n buf) s p e m (rw (← h, k, g)) i.left)
-    refl
-    (omega arith)
-
-pub ruleset storing_laws = (storing-more, storing-stop, storing-end, storing-full)
-
--- a refusal handed on by `?`
-module _ {r : Answer (ℕ × TextLocation) ParseError} {x : ParseError} (h : r ≡ Err x) where
-  pub token-err : (held : List ℕ) → told_token held r ≡ stop (number x.part) x.place
-  token-err held = rw h
-
-  pub size-err : (n : ℕ) → size_of r ≤ n
-  size-err n = rw h (omega arith)
-
--- a token's answer that is matched on
-module _ {ends : ℕ → Bool} (c : ℕ) {s : List ℕ} {p : TextLocation} {buf later : List ℕ} {m : Answer (ℕ × TextLocation) ParseError} (e : Tokened ends c s p buf later m) where
-  pub token-fits : {n : ℕ} {q : TextLocation} → m ≡ Ok (n, q) → n ≤ length later
-  token-fits h = rw h at e.fits
-
-  pub token-size : {n : ℕ} {q : TextLocation} → m ≡ Ok (n, q) → n ≡ length (take n later)
-  token-size {n} h = sym (length-take-le n later (token-fits h))
-
-  module _ {B : Type 0} (lim : ℕ) (f : List ℕ → Reader B) {z : Result B} (size : length buf ≡ lim) where
-    pub pass-read : {n : ℕ} {q : TextLocation} → m ≡ Ok (n, q) → z ≡ f (take n later) s q → z ≡ (token ends c lim >>= f) s p
-    pass-read h k = bind_ok (token ends c lim) f s p (rw (h, size) at e.answer) k
-
-    pub pass-long : {x : ParseError} → m ≡ Err x → z ≡ stop (number x.part) x.place → z ≡ (token ends c lim >>= f) s p
-    pass-long h k = bind-stop (token ends c lim) f s p (rw (h, size) at e.answer) k
-
-pub ruleset token_laws = (token-fits, token-size, pass-read, pass-long, token-err, size-err)
+pub ruleset taking_laws = (taking-more, taking-stop, taking-end, taking-full)

@@ -1,8 +1,8 @@
 -- The lexical rules: readers put together from the leaves.
-use Rattle.std.specs.Prelude.{ℕ, List, [], ◌∷◌, Bool, true, false, eqb, Result as Answer, Ok, Err}
+use Rattle.std.specs.Prelude.{ℕ, List, [], ◌∷◌, Bool, true, false, eqb}
 use Rattle.std.proofs.Math.Option.{Option, none, some}
 use Rattle.text.specs.Place.{pick}
-use Rattle.text.specs.Reader.{Result, ok, stop, Reader, ◌>>◌}
+use Rattle.text.specs.Reader.{Reader, ◌>>◌}
 use Rattle.text.specs.Leaf.{give, one, run, Move, go_on, stay}
 use Rattle.text.specs.declared.TextLocation.{TextLocation}
 use Rattle.lexical.specs.declared.ParseError.{ParseError}
@@ -20,14 +20,9 @@ number Data = 6
 number ArrayEnd = 7
 number Trailing = 8
 
--- answers as results
-abbrev pub told : Answer TextLocation ParseError → Result (Unit {0})
-told (Ok p) = ok tt p
-told (Err e) = stop (number e.part) e.place
-
-abbrev pub told_byte : Answer (ℕ × TextLocation) ParseError → Result ℕ
-told_byte (Ok r) = ok r.0 r.1
-told_byte (Err e) = stop (number e.part) e.place
+-- a rule of a part is broken at a place
+abbrev pub broken : XbmPart → TextLocation → ParseError
+broken part p = record { part = part; place = p }
 
 -- a blank: space or tab
 unfoldable pub is_blank : ℕ → Bool

@@ -1,13 +1,13 @@
-// The lexical readers: each takes bytes at a place, and answers what it read and the place after it, or a refusal with its place.
+// The lexical readers: each takes bytes off a text reader, and answers what it read, or a refusal with its place.
 #![tactic(auto)]
 
-ghost use Rattle.std.specs.Prelude.{◌≡◌, ℕ, Bool};
-ghost use Rattle.text.specs.Reader.{ok};
-ghost use Rattle.lexical.specs.Lexical.{is_blank, is_loose, number, told, told_byte, any_byte, byte, skip, gap, fixed, line_end};
+ghost use Rattle.std.specs.Prelude.{◌≡◌, ℕ, Bool, Ok};
+ghost use Rattle.lexical.specs.Lexical.{is_blank, is_loose, number, broken, any_byte, byte, skip, gap, fixed, line_end};
 ghost use Rattle.lexical.specs.Class.{Decides};
-ghost use Rattle.lexical.specs.Token.{Tokened};
+ghost use Rattle.lexical.specs.Reads.{Reads, lent};
+ghost use Rattle.lexical.specs.Token.{token};
 
-use text::{TextLocation, past_byte, take};
+use text::{TextLocation, TextReader};
 
 // The part of the file in which a rule is broken, by its number.
 #[derive(Clone, Copy, Debug, PartialEq, Eq)]
@@ -27,6 +27,18 @@ pub enum XbmPart {
 pub struct ParseError {
     pub part: XbmPart,
     pub place: TextLocation,
+}
+
+impl ParseError {
+    // A rule of a part is broken where the reader stands.
+    pub fn at(r: &TextReader<'_>, part: XbmPart) -> ParseError
+        ensures { result ≡ broken part r.now.location }
+    {
+        ParseError {
+            part,
+            place: r.loc(),
+        }
+    }
 }
 
 // The number of a refusal in a part.
@@ -51,121 +63,99 @@ pub fn is_loose(b: u8) -> bool
 }
 
 // Past the bytes of a class, also none.
-fn skip_while<F: Fn(u8) -> bool>(text: &[u8], place: TextLocation, class: F) -> TextLocation
+fn skip_while<F: Fn(u8) -> bool>(r: &mut TextReader<'_>, class: F)
     requires { F.IsAlwaysCallable class }
-    ensures { (g : ℕ → Bool) → Decides (F.post class) g → ok tt result ≡ skip g text.now place }
+    ensures { (g : ℕ → Bool) → Decides (F.post class) g → Reads (skip g) r.old r.new (Ok tt) }
 {
-    let mut at = place;
-    while let Some((b, next)) = take(text, at) {
+    while let Some(b) = r.peek() {
         if !class(b) {
-            return at;
+            return;
         }
-        at = next;
+        r.pass(b);
     }
-    at
 }
 
-// One byte of a class. The place past it is made of the byte, so that no newline is looked for where it is none.
+// One byte of a class. The reader passes it in each branch, so that no newline is looked for where the class has none.
 pub fn read_byte_of<F: Fn(u8) -> bool>(
-    text: &[u8],
-    place: TextLocation,
+    r: &mut TextReader<'_>,
     class: F,
     part: XbmPart,
-) -> Result<TextLocation, ParseError>
+) -> Result<(), ParseError>
     requires { F.IsAlwaysCallable class }
-    ensures { (g : ℕ → Bool) → Decides (F.post class) g → told result ≡ byte (number part) g text.now place }
+    ensures { (g : ℕ → Bool) → Decides (F.post class) g → Reads (byte (number part) g) r.old r.new result }
 {
-    match take(text, place) {
-        Some((b, next)) => {
+    match r.peek() {
+        Some(b) => {
             if class(b) {
-                Ok(past_byte(place, b))
+                r.pass(b);
+                Ok(())
             } else {
-                Err(ParseError { part, place: next })
+                r.pass(b);
+                Err(ParseError::at(r, part))
             }
         }
-        None => Err(ParseError { part, place }),
+        None => Err(ParseError::at(r, part)),
     }
 }
 
 // Read a mixture of ' ', '\t' and '\n', also none.
-pub fn read_optional_whitespace(text: &[u8], place: TextLocation) -> TextLocation
-    ensures { ok tt result ≡ skip is_loose text.now place }
+pub fn read_optional_whitespace(r: &mut TextReader<'_>)
+    ensures { Reads (skip is_loose) r.old r.new (Ok tt) }
 {
-    skip_while(text, place, is_loose)
+    skip_while(r, is_loose);
 }
 
 // Read a single byte.
-pub fn read_byte(
-    text: &[u8],
-    place: TextLocation,
-    part: XbmPart,
-) -> Result<(u8, TextLocation), ParseError>
-    ensures { told_byte result ≡ any_byte (number part) text.now place }
+pub fn read_byte(r: &mut TextReader<'_>, part: XbmPart) -> Result<u8, ParseError>
+    ensures { Reads (any_byte (number part)) r.old r.new result }
 {
-    take(text, place).ok_or(ParseError { part, place })
+    r.next().ok_or(ParseError::at(r, part))
 }
 
 // Read a mixture of ' ' and '\t'. At least one character must be read.
-pub fn read_whitespace_gap(
-    text: &[u8],
-    place: TextLocation,
-    part: XbmPart,
-) -> Result<TextLocation, ParseError>
-    ensures { told result ≡ gap (number part) text.now place }
+pub fn read_whitespace_gap(r: &mut TextReader<'_>, part: XbmPart) -> Result<(), ParseError>
+    ensures { Reads (gap (number part)) r.old r.new result }
 {
-    let next = read_byte_of(text, place, is_blank, part)?;
-    Ok(skip_while(text, next, is_blank))
+    read_byte_of(r, is_blank, part)?;
+    skip_while(r, is_blank);
+    Ok(())
 }
 
 // Read a mixture of ' ' and '\t', until reading '\n'.
-pub fn read_to_newline(
-    text: &[u8],
-    place: TextLocation,
-    part: XbmPart,
-) -> Result<TextLocation, ParseError>
-    ensures { told result ≡ line_end (number part) text.now place }
+pub fn read_to_newline(r: &mut TextReader<'_>, part: XbmPart) -> Result<(), ParseError>
+    ensures { Reads (line_end (number part)) r.old r.new result }
 {
-    let at = skip_while(text, place, is_blank);
-    read_byte_of(text, at, |b| b == b'\n', part)
+    skip_while(r, is_blank);
+    read_byte_of(r, |b| b == b'\n', part)
 }
 
 // Read precisely the string `s`.
-pub fn read_fixed_string(
-    text: &[u8],
-    place: TextLocation,
-    s: &[u8],
-    part: XbmPart,
-) -> Result<TextLocation, ParseError>
-    ensures { told result ≡ fixed (number part) s.now text.now place }
+pub fn read_fixed_string(r: &mut TextReader<'_>, s: &[u8], part: XbmPart) -> Result<(), ParseError>
+    ensures { Reads (fixed (number part) s.now) r.old r.new result }
 {
-    let mut at = place;
     for right in s {
-        at = read_byte_of(text, at, |b| b == *right, part)?;
+        read_byte_of(r, |b| b == *right, part)?;
     }
-    Ok(at)
+    Ok(())
 }
 
-// Read token into the buffer until the buffer size is exceeded, or ' ' or '\t' or '\n' is found: how many bytes were stored, and the place after them.
-pub fn read_until_whitespace(
-    text: &[u8],
-    place: TextLocation,
-    buf: &mut [u8],
+// Read a token of at most `limit` bytes, until ' ' or '\t' or '\n' or the end is found: its bytes, as a part of the text.
+pub fn read_until_whitespace<'a>(
+    r: &mut TextReader<'a>,
+    limit: usize,
     part: XbmPart,
-) -> Result<(usize, TextLocation), ParseError>
-    ensures { Tokened is_loose (number part) text.now place buf.old buf.new result }
+) -> Result<&'a [u8], ParseError>
+    ensures { Reads (token is_loose (number part) limit) r.old r.new (lent result) }
 {
-    let mut at = place;
-    let mut len: usize = 0;
-    while let Some((b, next)) = take(text, at) {
+    let start = r.loc();
+    while let Some(b) = r.peek() {
         if is_loose(b) {
-            return Ok((len, at));
+            break;
         }
-        if len >= buf.len() {
-            return Err(ParseError { part, place: at });
+        if r.taken_since(start).len() >= limit {
+            return Err(ParseError::at(r, part));
         }
-        buf[len] = b;
-        len += 1;
-        at = next;
+        r.pass(b);
     }
-    Ok((len, at))
+    Ok(r.taken_since(start))
 }

@@ -1,8 +1,9 @@
 -- A text reader: what its calls answer, and the reader after them.
 use Rattle.std.specs.Prelude.{ℕ, List, [], ◌∷◌, Bool, Option}
+use Rattle.std.specs.List.{between}
 use Rattle.text.specs.declared.TextLocation.{TextLocation}
 use Rattle.text.specs.declared.TextReader.{TextReader}
-use Rattle.text.specs.Place.{rest, after, peeked_at, is_foreign, reaches_to, has_left, along_line, past_line, past_byte}
+use Rattle.text.specs.Place.{byte_of, rest, after, peeked_at, is_foreign, reaches_to, has_left, along_line, past_line, past_byte}
 
 -- the place after the first of the bytes that remain; at the end, and at a foreign place, none do
 abbrev pub onward : List ℕ → TextLocation → TextLocation
@@ -43,3 +44,7 @@ passed_along n r = moved_to (along_line r.location n) r
 
 abbrev pub passed_line : ℕ → TextReader → TextReader
 passed_line n r = moved_to (past_line r.location n) r
+
+-- the bytes from a place up to where a reader stands
+abbrev pub since : TextLocation → TextReader → List ℕ
+since p r = between (byte_of p) (byte_of r.location) r.text.now

@@ -3,7 +3,7 @@
 
 ghost use Rattle.std.specs.Prelude.{◌≡◌, ◌^◌, ◌<◌};
 ghost use Rattle.text.specs.Place.{byte_of, at_line_start, start, nowhere, is_sound, along_line, past_line, past_byte};
-ghost use Rattle.text.specs.TextReader.{foreign, reaching, left, next_of, moved_on, passed, passed_along, passed_line};
+ghost use Rattle.text.specs.TextReader.{foreign, reaching, left, next_of, moved_on, passed, passed_along, passed_line, since};
 
 use std::num::wrapping_add_u64;
 
@@ -191,6 +191,15 @@ impl<'a> TextReader<'a> {
         } else {
             None
         }
+    }
+
+    // The bytes taken since a place.
+    pub fn taken_since(&self, start: TextLocation) -> &'a [u8]
+        ensures { result.now ≡ since start self.now }
+    {
+        let end = self.text.len().min(self.location.byte.0 as usize);
+        let from = end.min(start.byte.0 as usize);
+        &self.text[from..end]
     }
 
     // Past the byte b, which was looked at.
