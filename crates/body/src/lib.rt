@@ -15,7 +15,7 @@ use text::TextReader;
 fn read_separator(r: &mut TextReader<'_>) -> Result<(), ParseError>
     ensures { Reads separator r.old r.new result }
 {
-    if let Some(b',') = r.peek() {
+    if r.peek() == Some(b',') {
         r.pass(b',');
         return Ok(());
     }
@@ -48,7 +48,7 @@ pub fn read_data_byte(r: &mut TextReader<'_>, first: bool) -> Result<u8, ParseEr
 fn read_brace(r: &mut TextReader<'_>) -> Result<(), ParseError>
     ensures { Reads brace r.old r.new result }
 {
-    if let Some(b',') = r.peek() {
+    if r.peek() == Some(b',') {
         r.pass(b',');
         read_optional_whitespace(r);
     }
