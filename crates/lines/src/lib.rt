@@ -78,11 +78,7 @@ fn read_element(r: &mut TextReader<'_>, part: XbmPart) -> Result<(), ParseError>
 }
 
 // The line that opens the array.
-pub fn read_array_line(
-    r: &mut TextReader<'_>,
-    name: &[u8],
-    part: XbmPart,
-) -> Result<(), ParseError>
+pub fn read_array_line(r: &mut TextReader<'_>, name: &[u8], part: XbmPart) -> Result<(), ParseError>
     ensures { Reads (array_line (number part) name.now) r.old r.new result }
 {
     read_fixed_string(r, b"static", part)?;
