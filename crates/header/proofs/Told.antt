@@ -20,7 +20,8 @@ use Rattle.lexical.specs.Lexical.{number, broken}
 use Rattle.integer.specs.declared.Fault.{Fault}
 use Rattle.integer.specs.Decimal.{parse_u32, unsigned_of, unsigned_fault}
 use Rattle.error.specs.declared.XbmDecodeError.{XbmDecodeError}
-use Rattle.error.specs.Error.{told_error, parse_of, Decodes}
+use Rattle.error.specs.Error.{told_error, Decodes}
+use Rattle.error.proofs.Told.{decodes-as}
 use Rattle.lines.specs.Lines.{positive, side}
 use Rattle.header.specs.Answer.{side_in, side_of}
 
@@ -39,28 +40,13 @@ module _ (part : XbmPart) (zero : XbmDecodeError) (w : List ℕ) {d : ℕ} (e : 
       go (Err f) p = rw h (record { kept = refl; answer = rw p; stands = rw p })
 
 -- a look at the next byte
-module _ {A : Type 0} {r₀ : TextReader} {m : Taken ℕ} (e : m ≡ next_of r₀) where
-  module _ (c x : ℕ) (p : Reader A) (y : ℕ) (q : Reader A) {r₁ : TextReader} {z : Answer A XbmDecodeError} {b : ℕ} (h : m ≡ Some b) where
-    pub decodes-first : b ≡ x → Decodes p r₀ r₁ z → Decodes (fork c x p y q) r₀ r₁ z
-    decodes-first g k =
-        let w = fork-first c x p y q r₀.text.now r₀.location e h g refl in record { kept = k.kept; answer = rw (← w) k.answer; stands = rw (← w) k.stands }
+module _ {A : Type 0} (c x : ℕ) (p : Reader A) (y : ℕ) (q : Reader A) {r₀ r₁ : TextReader} {z : Answer A XbmDecodeError} {m : Taken ℕ} (e : m ≡ next_of r₀) {b : ℕ} (h : m ≡ Some b) where
+  pub decodes-first : b ≡ x → Decodes p r₀ r₁ z → Decodes (fork c x p y q) r₀ r₁ z
+  decodes-first g = decodes-as (fork-first c x p y q r₀.text.now r₀.location e h g refl)
 
-    pub decodes-second : eqb y x ≡ false → b ≡ y → Decodes q r₀ r₁ z → Decodes (fork c x p y q) r₀ r₁ z
-    decodes-second n g k =
-        let u : b ≡ x → ⊥ = λ u. true≢false (sym (eq-eqb y x (sym g ∙ u)) ∙ n) in
-        let w = fork-second c x p y q r₀.text.now r₀.location e h u g refl in
-        record { kept = k.kept; answer = rw (← w) k.answer; stands = rw (← w) k.stands }
-
-  module _ (part : XbmPart) (x : ℕ) (p : Reader A) (y : ℕ) (q : Reader A) {v : XbmDecodeError} {w : ParseError} (s : v ≡ parse_of w) where
-    pub decodes-neither : {b : ℕ} {r₁ : TextReader} → m ≡ Some b → (b ≡ x → ⊥) → (b ≡ y → ⊥) → length r₀.text.now * 1 < 2 ^ 63 → r₁ ≡ passed b r₀ → w ≡ broken part r₁.location → Decodes (fork (number part) x p y q) r₀ r₁ (Err v)
-    decodes-neither h f g l k o =
-        let t = reader_passed r₀ e h l k in
-        let a = fork-neither (number part) x p y q r₀.text.now r₀.location e h f g refl in
-        rw (s, o, t) (record { kept = refl; answer = rw (← a); stands = rw (← a) })
-
-    pub decodes-end : m ≡ None → w ≡ broken part r₀.location → Decodes (fork (number part) x p y q) r₀ r₀ (Err v)
-    decodes-end h o =
-        let a = fork-end (number part) x p y q r₀.text.now r₀.location e h refl in
-        rw (s, o) (record { kept = refl; answer = rw (← a); stands = rw (← a) })
+  pub decodes-second : eqb y x ≡ false → b ≡ y → Decodes q r₀ r₁ z → Decodes (fork c x p y q) r₀ r₁ z
+  decodes-second n g =
+      let u : b ≡ x → ⊥ = λ u. true≢false (sym (eq-eqb y x (sym g ∙ u)) ∙ n) in
+      decodes-as (fork-second c x p y q r₀.text.now r₀.location e h u g refl)
 
 pub ruleset rest_laws = (decodes-first, decodes-second)

@@ -1,7 +1,8 @@
 -- What the search leaves of `read_rest`.
 use Rattle.std.proofs.Common.{rules, ap, refl, ◌∙◌}
 use Rattle.lexical.proofs.Laws.{refused-as}
-use Rattle.error.proofs.Told.{decodes_laws, decodes-read, decodes-then, decodes-give}
+use Rattle.lines.proofs.Laws.{reads-neither, reads-end}
+use Rattle.error.proofs.Told.{decodes-error, decodes_laws, decodes-read, decodes-then, decodes-give}
 use Rattle.lexical.specs.declared.XbmPart.TheVariants.{Array}
 use Rattle.std.proofs.Math.Option.{none, some}
 use Rattle.std.specs.Prelude.{Ok}
@@ -10,7 +11,7 @@ use Rattle.text.specs.Reader.{◌>>=◌}
 use Rattle.hotspot.specs.Hotspot.{spot}
 use Rattle.header.specs.Header.{Head, ending}
 use Rattle.header.specs.Answer.{rest_of, headed}
-use Rattle.header.proofs.Told.{rest_laws, decodes-first, decodes-neither, decodes-end}
+use Rattle.header.proofs.Told.{rest_laws, decodes-first}
 use Rattle.header.proofs.read_rest.Goals as goal
 use Rattle.header.proofs.read_rest.Goals.{in-Some-eq35+in_ok-read_hotspot-in-Some-eq35, in-Some-eq115}
 
@@ -20,11 +21,11 @@ returns-in_err-read_hotspot-in-Some-eq35 c = search (rest_laws, decodes_laws, c.
 
 pub returns-in-Some : goal.returns-in-Some
 unfolding rest_of
-returns-in-Some c = search (decodes-neither {A = Head} {r₀ = c.args.r.now} c.peek.ensures Array, rules)
+returns-in-Some c = search (decodes-error, reads-neither {A = Head} Array, rules)
 
 pub returns-in-None : goal.returns-in-None
 unfolding rest_of
-returns-in-None c = search (decodes-end {A = Head} {r₀ = c.args.r.now} c.peek.ensures Array, rules)
+returns-in-None c = search (decodes-error, reads-end {A = Head} Array, rules)
 
 pub returns-in_err-read_array_line : goal.returns-in_err-read_array_line
 unfolding rest_of
