@@ -1,32 +1,30 @@
 -- What the search leaves of `read_sides`.
-use Rattle.std.proofs.Common.{rules}
+use Rattle.std.proofs.Common.{rules, ap, refl}
 use Rattle.lexical.proofs.Laws.{refused-as}
-use Rattle.header.proofs.Told.{shown_laws}
-use Rattle.lexical.specs.declared.XbmPart.TheVariants.{Width}
-use Rattle.error.specs.declared.XbmDecodeError.TheVariants.{DecodeInteger}
-use Rattle.error.proofs.Told.{mapped-ok, mapped-err}
-use Rattle.lines.proofs.Laws.{size_laws}
-use Rattle.header.specs.Answer.{sides_of}
+use Rattle.lexical.specs.Reads.{lent}
+use Rattle.lexical.specs.declared.XbmPart.TheVariants.{Width, Height}
+use Rattle.error.specs.declared.XbmDecodeError.TheVariants.{ZeroWidth, ZeroHeight}
+use Rattle.error.proofs.Told.{decodes_laws}
+use Rattle.header.specs.Answer.{sides_of, headed}
+use Rattle.header.proofs.Told.{decodes-side}
 use Rattle.header.proofs.read_sides.Goals as goal
 
-pub returns-in_err-n : goal.returns-in_err-n
+pub returns-in_err-digits : goal.returns-in_err-digits
 unfolding sides_of
-returns-in_err-n c = search (size_laws, shown_laws, c.in_err-n.was, refused-as c.from_residual.ensures.1, rules)
+returns-in_err-digits c = search (decodes_laws, ap lent c.in_err-digits.was, ap (headed c.args.name.now) (refused-as c.from_residual.ensures.1), rules)
 
 pub returns-in_err-width : goal.returns-in_err-width
 unfolding sides_of
-returns-in_err-width c =
-    let (f, p, q) = mapped-err c.parse_u32.result _ (DecodeInteger Width) c.map_err.ensures.cases (λ e y k. search rules) c.in_err-width.was in
-    rw (refused-as c.from_residual-in_err-width.ensures.1, q) (search (size_laws, shown_laws, c.in_ok-n.was, rules))
+returns-in_err-width c = let h = decodes-side Width ZeroWidth c.in_ok-digits.digits.now refl {r = c.read_value.new.r} c.parse_side.ensures in search (decodes_laws, ap lent c.in_ok-digits.was, c.in_err-width.was, ap (headed c.args.name.now) (refused-as c.from_residual-in_err-width.ensures.1), rules)
 
-pub returns-then-width-eq0 : goal.returns-then-width-eq0
+pub returns-in_err-digits-2 : goal.returns-in_err-digits-2
 unfolding sides_of
-returns-then-width-eq0 c =
-    let p = mapped-ok c.parse_u32.result _ c.map_err.ensures.cases c.in_ok-width.was in
-    search (size_laws, shown_laws, c.in_ok-n.was, p, rules) depth 8
+returns-in_err-digits-2 c = let h = decodes-side Width ZeroWidth c.in_ok-digits.digits.now refl {r = c.read_value.new.r} c.parse_side.ensures in search (decodes_laws, ap lent c.in_ok-digits.was, c.in_ok-width.was, ap lent c.in_err-digits-2.was, ap (headed c.args.name.now) (refused-as c.from_residual-in_err-digits-2.ensures.1), rules)
+
+pub returns-in_err-height : goal.returns-in_err-height
+unfolding sides_of
+returns-in_err-height c = let h = decodes-side Width ZeroWidth c.in_ok-digits.digits.now refl {r = c.read_value.new.r} c.parse_side.ensures in let k = decodes-side Height ZeroHeight c.in_ok-digits-2.digits.now refl {r = c.read_define_line.new.r} c.parse_side-2.ensures in search (decodes_laws, ap lent c.in_ok-digits.was, c.in_ok-width.was, ap lent c.in_ok-digits-2.was, c.in_err-height.was, ap (headed c.args.name.now) (refused-as c.from_residual-in_err-height.ensures.1), rules)
 
 pub returns : goal.returns
 unfolding sides_of
-returns c =
-    let p = mapped-ok c.parse_u32.result _ c.map_err.ensures.cases c.in_ok-width.was in
-    search (size_laws, shown_laws, c.in_ok-n.was, p, rules) depth 8
+returns c = let h = decodes-side Width ZeroWidth c.in_ok-digits.digits.now refl {r = c.read_value.new.r} c.parse_side.ensures in let k = decodes-side Height ZeroHeight c.in_ok-digits-2.digits.now refl {r = c.read_define_line.new.r} c.parse_side-2.ensures in search (decodes_laws, ap lent c.in_ok-digits.was, c.in_ok-width.was, ap lent c.in_ok-digits-2.was, c.in_ok-height.was, rules)
