@@ -27,17 +27,22 @@ use Rattle.body.specs.Data.{item}
 use Rattle.hexadecimal.proofs.Hex.{told-got}
 use Rattle.rows.specs.Quick.{Meets}
 
-pub miss : {r : Answered (ℕ × TextLocation)} (d : Result ℕ) → r ≡ None → Meets r d
-miss d h = record { hit = λ v q e. cc }
+-- a quick answer, and the same reading by the plain reader where it is none
+module _ {p : Reader ℕ} {r₀ r₁ : TextReader} {m : Answered ℕ} (h : Meets p r₀ r₁ m) where
+  pub meets : {v : ℕ} → m ≡ Some v → Reads p r₀ r₁ (Ok v)
+  meets {v} e = reads-value h.kept (h.hit v e)
 
-pub meets : {d : Result ℕ} {r : Answered (ℕ × TextLocation)} {v : ℕ} {q : TextLocation} → Meets r d → r ≡ Some (v, q) → ok v q ≡ d
-meets {v = v} {q = q} k e = k.hit v q e
+  pub misses : {r₂ : TextReader} {z : Answer ℕ ParseError} → m ≡ None → Reads p r₁ r₂ z → Reads p r₀ r₂ z
+  misses e k = rw (h.miss e) at k
 
--- a plain refusal handed on
-pub again-refused : {d : Result ℕ} {m r : Answer (ℕ × TextLocation) ParseError} {x : ParseError} → told_byte m ≡ d → m ≡ Err x → r ≡ Err x → told_byte r ≡ d
-again-refused e h k = rw k (rw h at e)
+-- the plain answer handed on
+pub again : {p : Reader ℕ} {r₀ r₁ : TextReader} {m z : Answer ℕ ParseError} → Reads p r₀ r₁ m → z ≡ m → Reads p r₀ r₁ z
+again k e = rw e k
 
-pub ruleset next_laws = (meets, told-got, again-refused)
+pub ruleset next_laws = (meets, misses, again)
+
+pub missed : (p : Reader ℕ) {r₀ r₁ : TextReader} {m : Answered ℕ} → m ≡ None → r₁ ≡ r₀ → Meets p r₀ r₁ m
+missed p e k = record { kept = ap (λ r. r.text) k; hit = λ v h. cc; miss = λ h. k }
 
 -- a digit by the table
 pub digit-there : (b : ℕ) {v : ℕ} → v ≡ hex_of b → v < 16 → Some v ≡ value_of b
