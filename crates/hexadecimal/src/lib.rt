@@ -2,12 +2,13 @@
 #![tactic(auto)]
 
 ghost use Rattle.std.specs.Prelude.{◌≡◌};
-ghost use Rattle.lexical.specs.Lexical.{number, told, told_byte};
+ghost use Rattle.lexical.specs.Lexical.{number};
+ghost use Rattle.lexical.specs.Reads.{Reads};
 ghost use Rattle.hexadecimal.specs.Hex.{value_of, hex_table, is_mark, hex_digit, hex_start, hex_byte};
 
 use hex_table::HEX;
 use lexical::{ParseError, XbmPart, read_byte_of, read_fixed_string};
-use text::{TextLocation, past_byte, peek};
+use text::TextReader;
 
 mod hex_table;
 
@@ -31,21 +32,22 @@ pub fn hex_values() -> [u8; 256]
     HEX
 }
 
-// Read a single hex digit, either upper or lower case. The place past it is made of the byte, so that no newline is looked for past a digit.
-pub fn read_hex_digit(
-    text: &[u8],
-    place: TextLocation,
-    part: XbmPart,
-) -> Result<(u8, TextLocation), ParseError>
-    ensures { told_byte result ≡ hex_digit (number part) text.now place }
+// Read a single hex digit, either upper or lower case. The reader passes it in each branch, so that no newline is looked for past a digit.
+pub fn read_hex_digit(r: &mut TextReader<'_>, part: XbmPart) -> Result<u8, ParseError>
+    ensures { Reads (hex_digit (number part)) r.old r.new result }
 {
-    let b = peek(text, place).ok_or(ParseError { part, place })?;
+    let Some(b) = r.peek() else {
+        return Err(ParseError::at(r, part));
+    };
     match hex_value(b) {
-        Some(v) => Ok((v, past_byte(place, b))),
-        None => Err(ParseError {
-            part,
-            place: past_byte(place, b),
-        }),
+        Some(v) => {
+            r.pass(b);
+            Ok(v)
+        }
+        None => {
+            r.pass(b);
+            Err(ParseError::at(r, part))
+        }
     }
 }
 
@@ -58,27 +60,19 @@ fn is_mark(b: u8) -> bool
 }
 
 // `0` and then `x` or `X`.
-fn read_hex_start(
-    text: &[u8],
-    place: TextLocation,
-    part: XbmPart,
-) -> Result<TextLocation, ParseError>
-    ensures { told result ≡ hex_start (number part) text.now place }
+fn read_hex_start(r: &mut TextReader<'_>, part: XbmPart) -> Result<(), ParseError>
+    ensures { Reads (hex_start (number part)) r.old r.new result }
 {
-    let mark = read_fixed_string(text, place, b"0", part)?;
-    read_byte_of(text, mark, is_mark, part)
+    read_fixed_string(r, b"0", part)?;
+    read_byte_of(r, is_mark, part)
 }
 
 // Read a hex-encoded byte (e.g.: 0xA1).
-pub fn read_hex_byte(
-    text: &[u8],
-    place: TextLocation,
-    part: XbmPart,
-) -> Result<(u8, TextLocation), ParseError>
-    ensures { told_byte result ≡ hex_byte (number part) text.now place }
+pub fn read_hex_byte(r: &mut TextReader<'_>, part: XbmPart) -> Result<u8, ParseError>
+    ensures { Reads (hex_byte (number part)) r.old r.new result }
 {
-    let a = read_hex_start(text, place, part)?;
-    let (hi, b) = read_hex_digit(text, a, part)?;
-    let (lo, c) = read_hex_digit(text, b, part)?;
-    Ok((hi * 16 + lo, c))
+    read_hex_start(r, part)?;
+    let hi = read_hex_digit(r, part)?;
+    let lo = read_hex_digit(r, part)?;
+    Ok(hi * 16 + lo)
 }
