@@ -90,7 +90,7 @@ pub fn read_rows(
     height: u32,
     pixels: &mut [u8],
 ) -> Result<(), RowsError>
-    ensures { Filled width height r.text.now r.location pixels.old pixels.new result }
+    ensures { Filled width height r.entry.text.now r.entry.location pixels.old pixels.new result }
 {
     let w = width as usize;
     let h = height as usize;
