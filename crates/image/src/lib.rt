@@ -111,7 +111,8 @@ fn read_picture(
     Ok(header)
 }
 
-// The pixels of a text, its header first: as `XbmDecoder::new` and then `read_image`.
+// The pixels of a text, its header first: as `XbmDecoder::new` and then `read_image`. Here and below name and cells stay two parameters:
+// they are buffers of two owners, lent apart, and a struct of both would be made anew in each call.
 pub fn read_image(text: &[u8], name: &mut [u8], pixels: &mut [u8]) -> ImageAnswer<ImageError>
     ensures { Imaged text.now name.old pixels.old name.new pixels.new result }
 {
@@ -144,6 +145,7 @@ fn read_bounded(
 }
 
 // The pixels of a text, its header first, into the first width times height of the cells lent; above the limit on these only the header is read.
+// The arms stand here again: of a buffer that a closure borrowed nothing is known, and one function for both needs a contract longer than they are.
 fn read_limited(
     text: &[u8],
     name: &mut [u8],

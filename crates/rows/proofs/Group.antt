@@ -30,20 +30,6 @@ use Rattle.hexadecimal.specs.Hex.{hex_of, value_of, hexv, hex_digit, hex_start, 
 use Rattle.body.specs.Data.{item}
 use Rattle.rows.specs.Quick.{Meets}
 
--- a quick answer, and the same reading by the plain reader where it is none
-module _ {p : Reader ℕ} {r₀ r₁ : TextReader} {m : Answered ℕ} (h : Meets p r₀ r₁ m) where
-  pub meets : {v : ℕ} → m ≡ Some v → Reads p r₀ r₁ (Ok v)
-  meets {v} e = reads-value h.kept (h.hit v e)
-
-  pub misses : {r₂ : TextReader} {z : Answer ℕ ParseError} → m ≡ None → Reads p r₁ r₂ z → Reads p r₀ r₂ z
-  misses e k = rw (h.miss e) at k
-
--- the plain answer handed on
-pub again : {p : Reader ℕ} {r₀ r₁ : TextReader} {m z : Answer ℕ ParseError} → Reads p r₀ r₁ m → z ≡ m → Reads p r₀ r₁ z
-again k e = rw e k
-
-pub ruleset next_laws = (meets, misses, again)
-
 pub missed : (p : Reader ℕ) {r₀ r₁ : TextReader} {m : Answered ℕ} → m ≡ None → r₁ ≡ r₀ → Meets p r₀ r₁ m
 missed p e k = record { kept = ap (λ r. r.text) k; hit = λ v h. cc; miss = λ h. k }
 
