@@ -28,6 +28,7 @@ use Rattle.lexical.specs.Reads.{Reads}
 use Rattle.lexical.proofs.Laws.{reads-value}
 use Rattle.hexadecimal.specs.Hex.{hex_of, value_of, hexv, hex_digit, hex_start, hex_digits, hex_unit, is_mark}
 use Rattle.body.specs.Data.{item}
+use Rattle.hexadecimal.proofs.Hex.{hex-there}
 use Rattle.rows.specs.Quick.{Meets}
 
 pub missed : (p : Reader ℕ) {r₀ r₁ : TextReader} {m : Answered ℕ} → m ≡ None → r₁ ≡ r₀ → Meets p r₀ r₁ m
@@ -39,6 +40,8 @@ digit-there b {v} e h = rw (← e, lt-ltb v 16 h)
 
 pub digit-none : (b : ℕ) {v : ℕ} → v ≡ hex_of b → 16 ≤ v → None ≡ value_of b
 digit-none b {v} e h = rw (← e, le-ltb v 16 h)
+
+pub ruleset table_laws = (digit-there, digit-none, hex-there)
 
 -- what a digit is
 digit-is : (b : ℕ) {v : ℕ} → Some v ≡ value_of b → (v ≡ hex_of b) × (hex_of b < 16)

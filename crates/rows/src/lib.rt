@@ -35,6 +35,7 @@ impl From<ParseError> for RowsError {
 const COMMA_TO_MARK: u32 = 0x7830_202c;
 
 // A digit's value by the table.
+#[tactic(auto, using(crate::proofs::Group::table_laws))]
 fn hex_at(table: &[u8; 256], b: u8) -> Option<u8>
     requires { table.now ≡ hex_table }
     ensures { result ≡ value_of b }
@@ -65,11 +66,7 @@ fn quick_byte(r: &mut TextReader<'_>, table: &[u8; 256]) -> Option<u8>
 // The next data byte: the common form at once, anything else by the plain reader. The first is told apart, since it has no comma and its
 // place is not yet judged. The plain answer is taken apart and made again, so that it shares no memory with the quick one, which then
 // stays in registers: handed on as it is, decoding took two to three times as long.
-fn next_data(
-    r: &mut TextReader<'_>,
-    first: bool,
-    table: &[u8; 256],
-) -> Result<u8, ParseError>
+fn next_data(r: &mut TextReader<'_>, first: bool, table: &[u8; 256]) -> Result<u8, ParseError>
     requires { (table.now ≡ hex_table) × (first ≡ false → Sound r.old.location) }
     ensures { Reads (item first) r.old r.new result }
 {

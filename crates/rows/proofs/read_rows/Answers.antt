@@ -8,9 +8,6 @@ use Rattle.rows.proofs.read_rows.Goals.{then-left-gt8, else-left-gt8}
 pub loop-y-init : goal.loop-y-init
 loop-y-init c = search (going_laws, rules)
 
-pub loop-j-init : goal.loop-j-init
-loop-j-init c = search (going_laws, rules)
-
 pub returns-in_err-v : goal.returns-in_err-v
 returns-in_err-v c = search (going_laws, c.in_err-v.was, refused-as c.from_residual.ensures.1, rules)
 
@@ -22,9 +19,6 @@ loop-j-preserved c = elim c.if-left-gt8.branch [
   | then-left-gt8 w ↦ rw w.pixels-is (search (going_laws, c.in_ok-v.was, rules))
   | else-left-gt8 w ↦ rw w.pixels-is (search (going_laws, c.in_ok-v.was, rules))
 ]
-
-pub loop-y-preserved : goal.loop-y-preserved
-loop-y-preserved c = search (going_laws, c.loop-j.auto.j-end, rules)
 
 pub returns-in_err-read_data_byte : goal.returns-in_err-read_data_byte
 returns-in_err-read_data_byte c = search (going_laws, c.in_err-read_data_byte.was, refused-as c.from_residual-in_err-read_data_byte.ensures.1, rules)
