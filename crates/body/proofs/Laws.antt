@@ -1,112 +1,111 @@
 -- What a step of the code says of data bytes and of the trailer.
-use Prim.Native.Nat.{ℕ}
-use borrow.Author.Tests.{eqb-true}
+use Prim.Native.Nat.{ℕ, ◌*◌, ◌^◌, ◌<◌}
 use lib.Dec.{eqb}
 use mathlib.Core.Path.{◌≡◌, refl, sym, ap, ◌∙◌}
 use mathlib.Core.List.{List, [], ◌∷◌}
+use lib.ListN.{length}
 use mathlib.Core.Bool.{Bool, true, false}
+use Rattle.std.proofs.Common.{eqb-true}
+use Rattle.std.specs.Option.{option_eq}
 use Rattle.std.specs.Prelude.{Option as Taken, Some, None, Result as Answer, Ok, Err}
+use Rattle.text.specs.declared.TextReader.{TextReader}
 use Rattle.text.specs.declared.TextLocation.{TextLocation}
-use Rattle.text.specs.Place.{rest, after, took_at}
-use Rattle.text.specs.Reader.{Result, ok, stop, bad, then, ◌>>=◌, ◌>>◌}
-use Rattle.text.specs.Leaf.{give, run, one, first, judge, choose, fork_of, fork, eot}
-use Rattle.text.proofs.Laws.{next-rest, next-after, end_rest}
-use Rattle.text.proofs.Reading.{bind_ok}
+use Rattle.text.specs.Place.{peeked_at}
+use Rattle.text.specs.TextReader.{next_of, moved_to, moved_on, passed}
+use Rattle.text.specs.Reader.{Result, ok, stop, bad, then, Reader, ◌>>=◌, ◌>>◌}
+use Rattle.text.specs.Leaf.{one, fork, eot}
+use Rattle.text.proofs.Laws.{end-onward, end_rest, next-rest, reader-moved}
+use Rattle.text.proofs.Reading.{fork-first}
 use Rattle.lexical.specs.declared.ParseError.{ParseError}
-use Rattle.lexical.specs.Lexical.{number, told, when, is_blank, is_loose, skip, byte, is, fixed}
-use Rattle.lexical.proofs.Laws.{told-to, told-refused, pass_laws}
+use Rattle.lexical.specs.declared.XbmPart.TheVariants.{Trailing}
+use Rattle.lexical.specs.Lexical.{broken, is_blank, is_loose, skip, byte, is, fixed}
+use Rattle.lexical.specs.Reads.{Reads}
+use Rattle.lexical.proofs.Laws.{reads-value, reads-refusal, reads-after, reads-refused, byte-yes, skip_stop}
 use Rattle.hexadecimal.specs.Hex.{hex_byte}
-use Rattle.hexadecimal.proofs.Hex.{one_laws}
 use Rattle.body.specs.Data.{item, brace}
-use Rattle.body.specs.Code.{separator}
+use Rattle.body.specs.Code.{separator, ended}
+
+-- what q gives is what p gives
+as-read : {A : Type 0} (p q : Reader A) {r₀ r₁ : TextReader} {m : Answer A ParseError} → q r₀.text.now r₀.location ≡ p r₀.text.now r₀.location → Reads q r₀ r₁ m → Reads p r₀ r₁ m
+as-read p q e h = record { kept = h.kept; answer = h.answer ∙ e; stands = rw (← e) h.stands }
 
 -- the end of the text
-module _ (c : ℕ) (t : List ℕ) (i : TextLocation) {r : Taken (ℕ × TextLocation)} (e : r ≡ took_at t i) where
-  pub eot-end : r ≡ None → ok tt i ≡ eot c t i
+module _ (r₀ : TextReader) {r₁ : TextReader} {m : Taken ℕ} (e : m ≡ next_of r₀) (k : r₁ ≡ moved_on r₀) where
+  pub end-here : m ≡ None → Reads ended r₀ r₁ (Ok tt)
   unfolding eot
-  eot-end m = rw (end_rest t i e m)
+  end-here h =
+      let w : r₁ ≡ r₀ = k ∙ ap (λ p. moved_to p r₀) (end-onward r₀.text.now r₀.location e h) in
+      rw w (reads-value refl (rw (end_rest r₀.text.now r₀.location e h)))
 
-  pub eot-more : {b : ℕ} {q : TextLocation} → r ≡ Some (b, q) → stop c q ≡ eot c t i
+  pub end-later : {b : ℕ} {x : ParseError} → m ≡ Some b → length r₀.text.now * 1 < 2 ^ 63 → x ≡ broken Trailing r₁.location → Reads ended r₀ r₁ (Err x)
   unfolding eot
-  eot-more m = rw (next-rest t i e m, ← next-after t i e m)
+  end-later h l s =
+      let w = reader-moved r₀ e h l k in
+      rw s (reads-refusal (ap (λ r. r.text) w) refl (rw (next-rest r₀.text.now r₀.location e h, w)))
 
-pub ruleset end_laws = (eot-end, eot-more)
+pub ruleset end_laws = (end-here, end-later)
 
--- nothing before the first data byte; between two a comma, after loose space
-module _ (f : Bool) (t : List ℕ) (i : TextLocation) {z : Result (Unit {0})} where
-  pub separator-first : f ≡ true → z ≡ ok tt i → z ≡ separator f t i
-  unfolding separator give
-  separator-first h k = rw h k
+-- a byte that was looked for comes
+looked : (b : ℕ) (m : Taken ℕ) {w : Bool} → w ≡ option_eq eqb m (Some b) → w ≡ true → m ≡ Some b
+looked b None e h = cc
+looked b (Some x) e h = ap (λ x. Some x) (eqb-true x b (sym e ∙ h))
 
-  pub separator-next : f ≡ false → z ≡ (skip is_loose >> byte 6 (is 44)) t i → z ≡ separator f t i
-  unfolding separator
-  separator-next h k = rw h k
+-- between two data bytes, where the comma stands at once
+pub separator-at-once : {r₀ r₁ : TextReader} {m : Taken ℕ} {w : Bool} → m ≡ next_of r₀ → w ≡ option_eq eqb m (Some 44) → w ≡ true → length r₀.text.now * 1 < 2 ^ 63 → r₁ ≡ passed 44 r₀ → Reads separator r₀ r₁ (Ok tt)
+unfolding is_loose is_blank
+separator-at-once {m = m} e o h l k =
+    let h = looked 44 m o h in
+    reads-after (skip is_loose) (λ a. byte 6 (is 44)) (skip_stop is_loose e h refl refl) (byte-yes (is 44) e h l k refl 6 refl)
 
-  -- the comma stands there at once
-  pub separator-at-once : {q : TextLocation} → f ≡ false → ok tt q ≡ byte 6 (is 44) t i → z ≡ ok tt q → z ≡ separator f t i
-  unfolding skip run byte one
-  separator-at-once {q} h e k = separator-next h (k ∙ e ∙ go (rest t i) refl e)
-    where
-      at-first : (b : ℕ) (w : Bool) → eqb b 44 ≡ w → ok tt q ≡ judge 6 (when w) (after b i) → is_loose b ≡ false
-      at-first b true u r = rw (eqb-true b 44 u) (unfold is_loose is_blank in refl)
-      at-first b false u r = cc
-
-      go : (l : List ℕ) → rest t i ≡ l → ok tt q ≡ first 6 (λ b. when (is 44 b)) l i → byte 6 (is 44) t i ≡ (skip is_loose >> byte 6 (is 44)) t i
-      go [] r u = cc
-      go (b ∷ l) r u = bind_ok (skip is_loose) _ t i (rw (r, at-first b (eqb b 44) refl u) refl) refl
-
-pub ruleset separator_laws = (separator-first, separator-next, separator-at-once, bind_ok)
-
--- a data byte by its separator
-pub item-separated : (f : Bool) (t : List ℕ) (i : TextLocation) {z : Result ℕ} → z ≡ (separator f >> skip is_loose >> hex_byte 6) t i → z ≡ item f t i
-unfolding item separator give ◌>>=◌
-item-separated true t i h = h
-item-separated false t i h = h ∙ go (skip is_loose t i)
+-- a data byte that is not the first, by its separator
+spaced : (r₀ : TextReader) {r₁ : TextReader} {z : Answer ℕ ParseError} → Reads (separator >> skip is_loose >> hex_byte 6) r₀ r₁ z → Reads (item false) r₀ r₁ z
+unfolding item ◌>>=◌
+spaced r₀ h = as-read _ _ (go (skip is_loose r₀.text.now r₀.location)) h
   where
     on : Unit {0} → TextLocation → Result ℕ
-    on a e = (skip is_loose >> hex_byte 6) t e
+    on a e = (skip is_loose >> hex_byte 6) r₀.text.now e
 
-    go : (r : Result (Unit {0})) → then (then r (λ a e. byte 6 (is 44) t e)) on ≡ then r (λ a e. then (byte 6 (is 44) t e) on)
+    go : (r : Result (Unit {0})) → then (then r (λ a e. byte 6 (is 44) r₀.text.now e)) on ≡ then r (λ a e. then (byte 6 (is 44) r₀.text.now e) on)
     go (ok a e) = refl
     go (stop c e) = refl
     go (bad c e) = refl
 
-pub ruleset item_laws = (item-separated, pass_laws, one_laws)
+-- a data byte, after its separator or none
+module _ {r₁ r₂ r₃ : TextReader} {z : Answer ℕ ParseError} (l : Reads (skip is_loose) r₁ r₂ (Ok tt)) (u : Reads (hex_byte 6) r₂ r₃ z) where
+  unit : Reads (skip is_loose >> hex_byte 6) r₁ r₃ z
+  unit = reads-after (skip is_loose) (λ a. hex_byte 6) l u
+
+  module _ {f : Bool} {r₀ : TextReader} where
+    pub item-first : f ≡ true → r₁ ≡ r₀ → Reads (item f) r₀ r₃ z
+    unfolding item
+    item-first h k = rw (h, ← k) unit
+
+    pub item-next : f ≡ false → {r : TextReader} → Reads separator r₀ r (Ok tt) → r₁ ≡ r → Reads (item f) r₀ r₃ z
+    unfolding item
+    item-next h g k = rw h (spaced r₀ (reads-after separator (λ a. skip is_loose >> hex_byte 6) (rw k g) unit))
+
+pub item-refused : {f : Bool} {r₀ r₁ : TextReader} {m : Answer (Unit {0}) ParseError} {x : ParseError} {z : Answer ℕ ParseError} → f ≡ false → Reads separator r₀ r₁ m → m ≡ Err x → z ≡ Err x → Reads (item f) r₀ r₁ z
+unfolding item
+item-refused {r₀ = r₀} h g k e = rw h (spaced r₀ (reads-refused separator (λ a. skip is_loose >> hex_byte 6) g k e))
 
 -- the brace: past one comma and loose space, or at once
-module _ (t : List ℕ) (i : TextLocation) where
-  after-comma : (q : TextLocation) → ok tt q ≡ byte 7 (is 44) t i → (skip is_loose >> fixed 7 (125 ∷ [])) t q ≡ brace t i
-  unfolding brace fork byte one
-  after-comma q e = at-rest (rest t i) refl e
-    where
-      at-first : (b : ℕ) (w : Bool) → eqb b 44 ≡ w → ok tt q ≡ judge 7 (when w) (after b i) → (skip is_loose >> fixed 7 (125 ∷ [])) t q ≡ choose 7 (after b i) (byte 7 (is 44) >> skip is_loose >> fixed 7 (125 ∷ [])) (fixed 7 (125 ∷ [])) w (eqb b 125) t i
-      at-first b true u h = bind_ok (byte 7 (is 44)) _ t i e refl
-      at-first b false u h = cc
+no-comma : (t : List ℕ) (i : TextLocation) (m : Taken ℕ) → m ≡ peeked_at t i → option_eq eqb m (Some 44) ≡ false → fixed 7 (125 ∷ []) t i ≡ brace t i
+unfolding brace fork fixed byte one ◌>>=◌
+no-comma t i None e n = rw (end_rest t i e refl)
+no-comma t i (Some b) e n = go (eqb b 125) refl
+  where
+    go : (y : Bool) → eqb b 125 ≡ y → fixed 7 (125 ∷ []) t i ≡ brace t i
+    go true h = rw (next-rest t i e refl, n, h, next-rest t i e refl, h)
+    go false h = rw (next-rest t i e refl, n, h)
 
-      at-rest : (l : List ℕ) → rest t i ≡ l → ok tt q ≡ first 7 (λ b. when (is 44 b)) l i → (skip is_loose >> fixed 7 (125 ∷ [])) t q ≡ brace t i
-      at-rest [] r h = cc
-      at-rest (b ∷ l) r h = rw r (at-first b (eqb b 44) refl h)
+module _ {r₀ : TextReader} {m : Taken ℕ} {w : Bool} (e : m ≡ next_of r₀) (o : w ≡ option_eq eqb m (Some 44)) {r r₁ : TextReader} {z : Answer (Unit {0}) ParseError} (f : Reads (fixed 7 (125 ∷ [])) r r₁ z) where
+  pub brace-comma : {p q : TextReader} → w ≡ true → length r₀.text.now * 1 < 2 ^ 63 → p ≡ passed 44 r₀ → Reads (skip is_loose) p q (Ok tt) → r ≡ q → Reads brace r₀ r₁ z
+  unfolding brace
+  brace-comma h l k s g =
+      let h = looked 44 m o h in
+      let f : Reads (fixed 7 (125 ∷ [])) _ r₁ z = rw g at f in
+      let a = reads-after (byte 7 (is 44)) (λ a. skip is_loose >> fixed 7 (125 ∷ [])) (byte-yes (is 44) e h l k refl 7 refl) (reads-after (skip is_loose) (λ a. fixed 7 (125 ∷ [])) s f) in
+      as-read _ _ (fork-first 7 44 _ 125 _ r₀.text.now r₀.location e h refl refl) a
 
-  no-comma : (x : ParseError) → stop (number x.part) x.place ≡ byte 7 (is 44) t i → fixed 7 (125 ∷ []) t i ≡ brace t i
-  unfolding brace fork fixed byte one ◌>>=◌
-  no-comma x e = at-rest (rest t i) refl e
-    where
-      at-first : (b : ℕ) (l : List ℕ) (w y : Bool) → rest t i ≡ b ∷ l → eqb b 44 ≡ w → eqb b 125 ≡ y → stop (number x.part) x.place ≡ judge 7 (when w) (after b i)
-          → fixed 7 (125 ∷ []) t i ≡ choose 7 (after b i) (byte 7 (is 44) >> skip is_loose >> fixed 7 (125 ∷ [])) (fixed 7 (125 ∷ [])) w y t i
-      at-first b l true y r u v h = cc
-      at-first b l false true r u v h = refl
-      at-first b l false false r u v h = rw (r, v) refl
-
-      at-rest : (l : List ℕ) → rest t i ≡ l → stop (number x.part) x.place ≡ first 7 (λ b. when (is 44 b)) l i → fixed 7 (125 ∷ []) t i ≡ brace t i
-      at-rest [] r h = rw r refl
-      at-rest (b ∷ l) r h =
-          at-first b l (eqb b 44) (eqb b 125) r refl refl h ∙ ap (λ (k : List ℕ). fork_of 7 44 (byte 7 (is 44) >> skip is_loose >> fixed 7 (125 ∷ [])) 125 (fixed 7 (125 ∷ [])) k t i) (sym r)
-
-  module _ {m : Answer TextLocation ParseError} {a : TextLocation} {z : Result (Unit {0})} (e : told m ≡ byte 7 (is 44) t i) (k : z ≡ fixed 7 (125 ∷ []) t a) where
-    pub brace-comma : {q p : TextLocation} → m ≡ Ok q → ok tt p ≡ skip is_loose t q → a ≡ p → z ≡ brace t i
-    brace-comma {q} h s w = bind_ok (skip is_loose) (λ u. fixed 7 (125 ∷ [])) t q s (rw w at k) ∙ after-comma q (told-to e h)
-
-    pub brace-plain : {x : ParseError} → m ≡ Err x → a ≡ i → z ≡ brace t i
-    brace-plain {x} h w = (rw w at k) ∙ no-comma x (told-refused e h)
-
-pub ruleset brace_laws = (brace-comma, brace-plain)
+  pub brace-plain : w ≡ false → r ≡ r₀ → Reads brace r₀ r₁ z
+  brace-plain h g = as-read _ _ (no-comma r₀.text.now r₀.location m e (sym o ∙ h)) (rw g at f)

@@ -1,88 +1,92 @@
-// The body of the array: a data byte with what stands before it, and the trailer.
+// The body of the array: how many bytes it has, a data byte with what stands before it, and the trailer.
 #![tactic(auto)]
 
 ghost use Rattle.std.specs.Prelude.{◌≡◌};
-ghost use Rattle.lexical.specs.Lexical.{number, told, told_byte, byte, is};
-ghost use Rattle.body.specs.Data.{item, brace, closing, trailer};
+ghost use Rattle.lexical.specs.Reads.{Reads};
+ghost use Rattle.body.specs.Data.{item, brace, closing, trailer, bytes_of};
 ghost use Rattle.body.specs.Code.{separator, ended};
 
 use hexadecimal::read_hex_byte;
 use lexical::{ParseError, XbmPart, read_byte_of, read_fixed_string, read_optional_whitespace};
-use text::{TextLocation, take};
+use text::TextReader;
 
-// A comma.
-fn read_comma(text: &[u8], place: TextLocation, part: XbmPart) -> Result<TextLocation, ParseError>
-    ensures { told result ≡ byte (number part) (is 44) text.now place }
+// What stands between two data bytes: a comma after loose space. Mostly the comma stands there at once; without that first try a data
+// byte takes a tenth more instructions.
+fn read_separator(r: &mut TextReader<'_>) -> Result<(), ParseError>
+    ensures { Reads separator r.old r.new result }
 {
-    read_byte_of(text, place, |b| b == b',', part)
+    if r.peek() == Some(b',') {
+        r.pass(b',');
+        return Ok(());
+    }
+    read_optional_whitespace(r);
+    read_byte_of(r, |b| b == b',', XbmPart::Data)
 }
 
-// What stands before a data byte: a comma after loose space, but not before the first. Mostly the comma stands there at once; without
-// that first try a data byte takes a tenth more instructions.
-fn read_separator(text: &[u8], place: TextLocation, first: bool) -> Result<TextLocation, ParseError>
-    ensures { told result ≡ separator first text.now place }
+// One data byte. No separator stands before the first of a picture, whose reading is the same else: a closure for it would be no plainer.
+fn read_item(r: &mut TextReader<'_>, first: bool) -> Result<u8, ParseError>
+    ensures { Reads (item first) r.old r.new result }
 {
-    if first {
-        return Ok(place);
+    if !first {
+        read_separator(r)?;
     }
-    if let Ok(next) = read_comma(text, place, XbmPart::Data) {
-        return Ok(next);
-    }
-    let comma = read_optional_whitespace(text, place);
-    read_comma(text, comma, XbmPart::Data)
+    read_optional_whitespace(r);
+    read_hex_byte(r, XbmPart::Data)
 }
 
-// One data byte.
-pub fn read_data_byte(
-    text: &[u8],
-    place: TextLocation,
-    first: bool,
-) -> Result<(u8, TextLocation), ParseError>
-    ensures { told_byte result ≡ item first text.now place }
+// One data byte. A copy of the reader is moved and then stored: so its numbers need not be stored at each step.
+pub fn read_data_byte(r: &mut TextReader<'_>, first: bool) -> Result<u8, ParseError>
+    ensures { Reads (item first) r.old r.new result }
 {
-    let next = read_separator(text, place, first)?;
-    let unit = read_optional_whitespace(text, next);
-    read_hex_byte(text, unit, XbmPart::Data)
+    let mut at = *r;
+    let answer = read_item(&mut at, first);
+    *r = at;
+    answer
 }
 
 // One comma at most, and `}`.
-fn read_brace(text: &[u8], place: TextLocation) -> Result<TextLocation, ParseError>
-    ensures { told result ≡ brace text.now place }
+fn read_brace(r: &mut TextReader<'_>) -> Result<(), ParseError>
+    ensures { Reads brace r.old r.new result }
 {
-    let at = match read_comma(text, place, XbmPart::ArrayEnd) {
-        Ok(next) => read_optional_whitespace(text, next),
-        Err(_) => place,
-    };
-    read_fixed_string(text, at, b"}", XbmPart::ArrayEnd)
+    if r.peek() == Some(b',') {
+        r.pass(b',');
+        read_optional_whitespace(r);
+    }
+    read_fixed_string(r, b"}", XbmPart::ArrayEnd)
 }
 
 // The end of the text.
-fn read_end(text: &[u8], place: TextLocation) -> Result<TextLocation, ParseError>
-    ensures { told result ≡ ended text.now place }
+fn read_end(r: &mut TextReader<'_>) -> Result<(), ParseError>
+    ensures { Reads ended r.old r.new result }
 {
-    match take(text, place) {
-        Some((_, next)) => Err(ParseError {
-            part: XbmPart::Trailing,
-            place: next,
-        }),
-        None => Ok(place),
+    match r.next() {
+        Some(_) => Err(ParseError::at(r, XbmPart::Trailing)),
+        None => Ok(()),
     }
 }
 
 // What follows the last data byte, up to `;`.
-fn read_closing(text: &[u8], place: TextLocation) -> Result<TextLocation, ParseError>
-    ensures { told result ≡ closing text.now place }
+fn read_closing(r: &mut TextReader<'_>) -> Result<(), ParseError>
+    ensures { Reads closing r.old r.new result }
 {
-    let at = read_optional_whitespace(text, place);
-    let next = read_brace(text, at)?;
-    let end = read_optional_whitespace(text, next);
-    read_fixed_string(text, end, b";", XbmPart::ArrayEnd)
+    read_optional_whitespace(r);
+    read_brace(r)?;
+    read_optional_whitespace(r);
+    read_fixed_string(r, b";", XbmPart::ArrayEnd)
 }
 
 // Read optional comma, followed by final `};`, then loose space and the end.
-pub fn read_trailer(text: &[u8], place: TextLocation) -> Result<TextLocation, ParseError>
-    ensures { told result ≡ trailer text.now place }
+pub fn read_trailer(r: &mut TextReader<'_>) -> Result<(), ParseError>
+    ensures { Reads trailer r.old r.new result }
 {
-    let next = read_closing(text, place)?;
-    read_end(text, read_optional_whitespace(text, next))
+    read_closing(r)?;
+    read_optional_whitespace(r);
+    read_end(r)
+}
+
+// How many data bytes a picture has.
+pub fn data_size(width: u32, height: u32) -> u64
+    ensures { result ≡ bytes_of width height }
+{
+    u64::from(width).div_ceil(8) * u64::from(height)
 }

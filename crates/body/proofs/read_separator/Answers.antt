@@ -1,13 +1,14 @@
 -- What the search leaves of `read_separator`.
 use Rattle.std.proofs.Common.{rules}
-use Rattle.body.proofs.Laws.{separator_laws}
+use Rattle.lexical.specs.Lexical.{is}
+use Rattle.lexical.proofs.Laws.{reads_laws}
+use Rattle.body.proofs.Laws.{separator-at-once}
 use Rattle.body.proofs.read_separator.Goals as goal
 
-pub returns-then-first : goal.returns-then-first
-returns-then-first c = search (separator_laws, rules)
-
-pub returns-in-Ok : goal.returns-in-Ok
-returns-in-Ok c = search (separator_laws, c.in-Ok.ensures, rules)
+pub returns-then-eq : goal.returns-then-eq
+returns-then-eq c = search (separator-at-once, rules)
 
 pub returns : goal.returns
-returns c = search (separator_laws, rules)
+returns c =
+    let k = c.read_byte_of.ensures (is 44) (record { decides = λ b r p. search rules }) in
+    search (reads_laws, rules)
