@@ -11,7 +11,7 @@ use lib.ListN.{length, drop, get_or}
 use native.Mathlib.Numerals.{add-one}
 use lib.Seq.{drop-cons}
 use lib.Dec.{eqb, ltb}
-use Rattle.std.specs.Prelude.{Option as Answered, Some, None, Result as Answer, Ok}
+use Rattle.std.specs.Prelude.{Option as Answered, Some, None}
 use Rattle.std.specs.Int.{from_le_bytes}
 use Rattle.text.specs.declared.TextLocation.{TextLocation}
 use Rattle.text.specs.declared.TextReader.{TextReader}
@@ -22,10 +22,7 @@ use Rattle.text.proofs.Rest.{after-rest}
 use Rattle.text.proofs.PlaceLaws.{sound-rest, along-past}
 use Rattle.text.specs.Reader.{ok, Reader, ◌>>=◌}
 use Rattle.text.specs.Leaf.{one, run, give}
-use Rattle.lexical.specs.declared.ParseError.{ParseError}
 use Rattle.lexical.specs.Lexical.{is_loose, is_blank, skip, byte, is, fixed}
-use Rattle.lexical.specs.Reads.{Reads}
-use Rattle.lexical.proofs.Laws.{reads-value}
 use Rattle.hexadecimal.specs.Hex.{hex_of, value_of, hexv, hex_digit, hex_start, hex_digits, hex_unit, is_mark}
 use Rattle.body.specs.Data.{item}
 use Rattle.hexadecimal.proofs.Hex.{hex-there}
