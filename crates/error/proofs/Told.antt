@@ -1,72 +1,75 @@
--- What is told of a reading that goes on after an answer or an error of its first part.
+-- What a step of the code says of a reading that answers a value or an error.
 use Prim.Native.Nat.{ℕ}
-use native.Mathlib.Omega.{arith}
-use mathlib.Core.Path.{◌≡◌, refl, ◌∙◌}
-use mathlib.Core.List.{List}
-use Rattle.text.specs.declared.TextLocation.{TextLocation}
-use Rattle.text.specs.Reader.{Result, ok, stop, bad, Reader, then, ◌>>=◌}
-use Rattle.text.specs.Outcome.{Outcome, accepted, refused, unplaced, Ended, ending_at, shown}
+use mathlib.Core.Path.{◌≡◌, refl, ap, ◌∙◌}
 use Rattle.std.specs.Prelude.{Option, Some, None, Result as Answer, Ok, Err, MatchResult, IsErrAnd}
 use Rattle.std.proofs.lemmas.Result.{err_from_is_err_and}
-use Rattle.error.specs.Error.{error_number, place_of_error, told_at, told_error, told_read}
+use Rattle.text.specs.declared.TextLocation.{TextLocation}
+use Rattle.text.specs.declared.TextReader.{TextReader}
+use Rattle.text.specs.Reader.{Result, ok, stop, bad, end_of, Reader, then, ◌>>=◌}
+use Rattle.text.specs.Outcome.{Outcome, accepted, Ended, ending_at, shown}
+use Rattle.text.specs.Leaf.{give}
+use Rattle.lexical.specs.declared.ParseError.{ParseError}
+use Rattle.lexical.specs.Lexical.{number}
+use Rattle.lexical.specs.Reads.{Reads}
 use Rattle.error.specs.declared.XbmDecodeError.{XbmDecodeError}
+use Rattle.error.specs.Error.{parse_of, error_number, place_of_error, told_at, told_error, Decodes}
 
--- what is told of a reading that goes on, of what is told of its first part
-abbrev on_told : {A B : Type 0} → Outcome (Ended A) → (A → TextLocation → Outcome B) → Outcome B
-on_told (accepted (ending_at a e)) k = k a e
-on_told (refused c e) k = refused c e
-on_told (unplaced c) k = unplaced c
+-- a result of which a value is told
+shown_ok : {A : Type 0} {a : A} {e : TextLocation} (q : Result A) → accepted (ending_at a e) ≡ shown q → ok a e ≡ q
+shown_ok (ok b i) h = cc
+shown_ok (stop c i) h = cc
+shown_ok (bad c i) h = cc
 
-shown-then : {A B : Type 0} (r : Result A) (k : A → TextLocation → Result B) → shown (then r k) ≡ on_told (shown r) (λ a e. shown (k a e))
-shown-then (ok a e) k = refl
-shown-then (stop c e) k = refl
-shown-then (bad c e) k = refl
+-- an error is told alike whatever was to be read, and what was to follow it is not read
+module _ {A B : Type 0} (x : XbmDecodeError) (k : A → TextLocation → Result B) where
+  abbrev On : Outcome (Ended B) → Result A → Type 0
+  On z q = (z ≡ shown (then q k)) × (end_of (then q k) ≡ end_of q)
 
--- an error is no acceptance
-pub error-never : {A C : Type 0} (x : XbmDecodeError) {a : A} → told_error x ≡ accepted a → C
-error-never {A} {C} x {a} = go (error_number x) (place_of_error x)
-  where
-    go : (n : ℕ) (o : Option TextLocation) → told_at n o ≡ accepted a → C
-    go n (Some q) w = let z : ◌≡◌ {A = ℕ} 0 1 = cc in absurd (omega arith)
-    go n None w = let z : ◌≡◌ {A = ℕ} 0 1 = cc in absurd (omega arith)
-
--- it is told alike, whatever was to be read
-module _ {A B : Type 0} (x : XbmDecodeError) {c : ℕ} where
-  pub error-placed : {p : TextLocation} → told_error {A = A} x ≡ refused c p → told_error {A = B} x ≡ refused c p
-  error-placed {p} = go (error_number x) (place_of_error x)
+  on_error : (q : Result A) → told_error x ≡ shown q → On (told_error x) q
+  on_error q = go (error_number x) (place_of_error x) q
     where
-      go : (n : ℕ) (o : Option TextLocation) → told_at {A = A} n o ≡ refused c p → told_at {A = B} n o ≡ refused c p
-      go n (Some q) w = cc
-      go n None w = let z : ◌≡◌ {A = ℕ} 0 1 = cc in absurd (omega arith)
+      go : (n : ℕ) (o : Option TextLocation) (q : Result A) → told_at n o ≡ shown q → On (told_at n o) q
+      go n (Some p) (ok a i) h = cc
+      go n None (ok a i) h = cc
+      go n (Some p) (stop c i) h = (cc, refl)
+      go n None (stop c i) h = cc
+      go n (Some p) (bad c i) h = cc
+      go n None (bad c i) h = (cc, refl)
 
-  pub error-unplaced : told_error {A = A} x ≡ unplaced c → told_error {A = B} x ≡ unplaced c
-  error-unplaced = go (error_number x) (place_of_error x)
-    where
-      go : (n : ℕ) (o : Option TextLocation) → told_at {A = A} n o ≡ unplaced c → told_at {A = B} n o ≡ unplaced c
-      go n (Some q) w = let z : ◌≡◌ {A = ℕ} 0 1 = cc in absurd (omega arith)
-      go n None w = cc
-
-on-error : {A B : Type 0} (x : XbmDecodeError) (k : A → TextLocation → Outcome B) → told_error x ≡ on_told (told_error x) k
-on-error x k = go (error_number x) (place_of_error x)
-  where
-    go : (n : ℕ) (o : Option TextLocation) → told_at n o ≡ on_told (told_at n o) k
-    go n (Some q) = refl
-    go n None = refl
-
-module _ {A B : Type 0} (p : Reader A) (f : A → Reader B) (t : List ℕ) (i : TextLocation) {z : Outcome (Ended B)} where
-  pub show-accepted : {a : A} {q : TextLocation} → accepted (ending_at a q) ≡ shown (p t i) → z ≡ shown (f a t q) → z ≡ shown ((p >>= f) t i)
+-- one reading after another
+module _ {A B : Type 0} (p : Reader A) (f : A → Reader B) {r₀ r₁ : TextReader} where
+  onward : {a : A} {r₂ : TextReader} {z : Answer B XbmDecodeError} → ok a r₁.location ≡ p r₀.text.now r₀.location → r₁.text ≡ r₀.text → Decodes (f a) r₁ r₂ z → Decodes (p >>= f) r₀ r₂ z
   unfolding ◌>>=◌
-  show-accepted e k = rw (shown-then (p t i) (λ a e. f a t e), ← e) k
+  onward e t k = record { kept = k.kept ∙ t; answer = rw (← e, ← t) k.answer; stands = rw (← e, ← t) k.stands }
 
-  pub show-error : (x : XbmDecodeError) → told_error x ≡ shown (p t i) → z ≡ told_error x → z ≡ shown ((p >>= f) t i)
-  unfolding ◌>>=◌
-  show-error x e k = rw (shown-then (p t i) (λ a e. f a t e), ← e, ← on-error {A = A} {B = Ended B} x (λ a e. shown (f a t e))) k
+  module _ {m : Answer A ParseError} (h : Reads p r₀ r₁ m) where
+    pub decodes-read : {a : A} {r₂ : TextReader} {z : Answer B XbmDecodeError} → m ≡ Ok a → Decodes (f a) r₁ r₂ z → Decodes (p >>= f) r₀ r₂ z
+    decodes-read g k = onward (rw g at h.answer) h.kept k
 
-pub read-err : {A : Type 0} {r : Answer (A × TextLocation) XbmDecodeError} {x : XbmDecodeError} → r ≡ Err x → told_read r ≡ told_error x
-read-err h = rw h
+    pub decodes-broken : {x : ParseError} {z : Answer B XbmDecodeError} → m ≡ Err x → z ≡ Err (parse_of x) → Decodes (p >>= f) r₀ r₁ z
+    unfolding ◌>>=◌
+    decodes-broken {x} g k =
+        let e : stop (number x.part) x.place ≡ p r₀.text.now r₀.location = rw g at h.answer in
+        record { kept = h.kept; answer = rw (k, ← e); stands = rw (← e) (ap end_of e ∙ h.stands) }
 
--- a row of readings, each handed on by `?`
-pub ruleset read_laws = (show-accepted, show-error, read-err)
+  module _ {m : Answer A XbmDecodeError} (h : Decodes p r₀ r₁ m) where
+    pub decodes-then : {a : A} {r₂ : TextReader} {z : Answer B XbmDecodeError} → m ≡ Ok a → Decodes (f a) r₁ r₂ z → Decodes (p >>= f) r₀ r₂ z
+    decodes-then {a} g k =
+        let w : accepted (ending_at a r₁.location) ≡ shown (p r₀.text.now r₀.location) = rw g at h.answer in
+        onward (shown_ok (p r₀.text.now r₀.location) w) h.kept k
+
+    pub decodes-refused : {x : XbmDecodeError} {z : Answer B XbmDecodeError} → m ≡ Err x → z ≡ Err x → Decodes (p >>= f) r₀ r₁ z
+    unfolding ◌>>=◌
+    decodes-refused {x} g k =
+        let w : told_error x ≡ shown (p r₀.text.now r₀.location) = rw g at h.answer in
+        let o = on_error x (λ a e. f a r₀.text.now e) (p r₀.text.now r₀.location) w in
+        record { kept = h.kept; answer = rw k o.0; stands = o.1 ∙ h.stands }
+
+pub decodes-give : {A : Type 0} {r : TextReader} {a v : A} → v ≡ a → Decodes (give a) r r (Ok v)
+unfolding give
+decodes-give e = record { kept = refl; answer = rw e; stands = refl }
+
+pub ruleset decodes_laws = (decodes-read, decodes-broken, decodes-then, decodes-refused, decodes-give)
 
 -- what `map_err` says of the answer that it was given
 pub mapped-ok : {A E D : Type 0} (r : Answer A E) {m : Answer A D} (Q : E → D → Type 0) {z : A} → MatchResult r (λ x. m ≡ Ok x) (λ e. IsErrAnd m (Q e))

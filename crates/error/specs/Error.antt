@@ -1,7 +1,9 @@
 -- An error as document 01's number and place, and what is told of it.
-use Rattle.std.specs.Prelude.{ℕ, ◌+◌, ◌*◌, Option, Some, None, Result as Answer, Ok, Err}
+use Rattle.std.specs.Prelude.{ℕ, ◌+◌, ◌*◌, ◌≡◌, Option, Some, None, Result as Answer, Ok, Err}
 use Rattle.text.specs.declared.TextLocation.{TextLocation}
-use Rattle.text.specs.Outcome.{Outcome, accepted, refused, unplaced, Ended, ending_at}
+use Rattle.text.specs.declared.TextReader.{TextReader}
+use Rattle.text.specs.Reader.{Reader, end_of}
+use Rattle.text.specs.Outcome.{Outcome, accepted, refused, unplaced, Ended, ending_at, shown}
 use Rattle.lexical.specs.Lexical.{number}
 use Rattle.lexical.specs.declared.ParseError.{ParseError}
 use Rattle.lexical.specs.declared.XbmPart.{XbmPart}
@@ -48,6 +50,12 @@ abbrev pub told_error : {A : Type 0} → XbmDecodeError → Outcome A
 told_error e = told_refusal (refusal_of e)
 
 -- what is told of an answer: a value and the place after it, or an error
-abbrev pub told_read : {A : Type 0} → Answer (A × TextLocation) XbmDecodeError → Outcome (Ended A)
-told_read (Ok r) = accepted (ending_at r.0 r.1)
-told_read (Err e) = told_error e
+abbrev pub told_read : {A : Type 0} → Answer A XbmDecodeError → TextLocation → Outcome (Ended A)
+told_read (Ok a) e = accepted (ending_at a e)
+told_read (Err x) e = told_error x
+
+-- the reader old read by p: what is told of the answer is what p gives, and new is the same text at the place where p ends
+pub record Decodes {A : Type 0} (p : Reader A) (old new : TextReader) (r : Answer A XbmDecodeError) : Type 0 where
+  pub kept : new.text ≡ old.text
+  pub answer : told_read r new.location ≡ shown (p old.text.now old.location)
+  pub stands : end_of (p old.text.now old.location) ≡ new.location

@@ -8,7 +8,7 @@ use Rattle.symbol.specs.Symbol.{opening, width_symbol}
 use Rattle.lines.specs.Lines.{symbol, width_line, define_line}
 use Rattle.hotspot.specs.Hotspot.{coordinate_line, spot}
 use Rattle.header.specs.Header.{rest, header}
-use Rattle.header.specs.Answer.{ending_of, rest_of, height_of, sides_of}
+use Rattle.header.specs.Answer.{rest_of, sides_of}
 
 then-assoc : {A B C : Type 0} (r : Result A) (f : A → TextLocation → Result B) (g : B → TextLocation → Result C)
     → then (then r f) g ≡ then r (λ a e. then (f a e) g)
@@ -25,5 +25,5 @@ unfolding ◌>>=◌ give
 give-bind a f = refl
 
 pub parts : (limit : ℕ) → width_symbol limit >>= (λ name. sides_of name) ≡ header limit
-unfolding define_line coordinate_line spot ending_of rest_of height_of sides_of width_symbol symbol width_line rest header opening
+unfolding define_line coordinate_line spot rest_of sides_of width_symbol symbol width_line rest header opening
 parts limit = simp (bind_assoc, give-bind)

@@ -1,60 +1,65 @@
--- What an answer that is matched on tells of a reading that goes on.
-use Prim.Native.Nat.{ℕ, ◌+◌}
-use borrow.Author.Tests.{eq-eqb, ne_eqb}
-use mathlib.Core.Path.{◌≡◌, refl}
+-- What a step of the code says of a side, and of a look at the next byte.
+use Prim.Native.Nat.{ℕ, ◌+◌, ◌*◌, ◌^◌, ◌<◌}
+use mathlib.Core.Path.{◌≡◌, refl, sym, ap, ◌∙◌}
 use mathlib.Core.List.{List}
-use Rattle.std.specs.Prelude.{Option as Taken, Some, Result, Ok, Err, None}
-use Rattle.text.specs.declared.TextLocation.{TextLocation}
-use Rattle.text.specs.Place.{took_at}
+use mathlib.Core.Bool.{Bool, true, false}
+use lib.ListN.{length}
+use lib.Dec.{eqb}
+use Rattle.std.specs.Prelude.{Option as Taken, Some, None, Result as Answer, Ok, Err}
+use Rattle.text.specs.declared.TextReader.{TextReader}
+use Rattle.text.specs.TextReader.{next_of, moved_to, moved_on}
 use Rattle.text.specs.Reader.{Reader, ◌>>=◌}
-use Rattle.text.specs.Outcome.{Outcome, refused, unplaced, Ended, shown}
+use Rattle.text.specs.Outcome.{unplaced, Ended}
 use Rattle.text.specs.Leaf.{need, fork}
+use Rattle.text.proofs.Laws.{end-onward, reader-moved}
 use Rattle.text.proofs.Reading.{fork-first, fork-second, fork-neither, fork-end}
+use Rattle.lexical.specs.declared.ParseError.{ParseError}
+use Rattle.lexical.specs.declared.XbmPart.{XbmPart}
+use Rattle.lexical.specs.Lexical.{number, broken}
 use Rattle.integer.specs.declared.Fault.{Fault}
-use Rattle.integer.specs.Decimal.{parse_u32, unsigned_of, unsigned_fault, fault_number}
-use Rattle.lines.specs.Lines.{positive}
+use Rattle.integer.specs.Decimal.{parse_u32, unsigned_of, unsigned_fault}
 use Rattle.error.specs.declared.XbmDecodeError.{XbmDecodeError}
-use Rattle.error.specs.Error.{told_error}
-use Rattle.header.specs.declared.XbmHeaderData.{XbmHeaderData}
-use Rattle.header.specs.Answer.{told_header}
-use Rattle.lines.proofs.Told.{line_laws}
-use Rattle.error.proofs.Told.{read_laws}
+use Rattle.error.specs.Error.{told_error, parse_of, Decodes}
+use Rattle.lines.specs.Lines.{positive, side}
+use Rattle.header.specs.Answer.{side_in, side_of}
 
--- an integer of a token; a side that must not be zero
-module _ {B : Type 0} (c : ℕ) (w : List ℕ) (f : ℕ → Reader B) (t : List ℕ) (i : TextLocation) {m : Result ℕ Fault} (e : m ≡ parse_u32 w) {z : Outcome (Ended B)} where
-  pub show-value : {n : ℕ} → m ≡ Ok n → z ≡ shown (f n t i) → z ≡ shown ((need (c + unsigned_fault (parse_u32 w)) (unsigned_of (parse_u32 w)) >>= f) t i)
-  unfolding need ◌>>=◌
-  show-value h k = rw (← e, h) k
+-- a side of a token
+module _ (part : XbmPart) (zero : XbmDecodeError) (w : List ℕ) {d : ℕ} (e : told_error {A = Ended ℕ} zero ≡ unplaced d) where
+  pub decodes-side : {r : TextReader} {m : Answer ℕ XbmDecodeError} → m ≡ side_of part zero w → Decodes (side (100 + 10 * number part) d w) r r m
+  unfolding ◌>>=◌ need positive
+  decodes-side {r} {m} h = go (parse_u32 w) refl
+    where
+      test : (n : ℕ) (b : Bool) → parse_u32 w ≡ Ok n → eqb n 0 ≡ b → Decodes (side (100 + 10 * number part) d w) r r m
+      test n true p q = rw h (record { kept = refl; answer = rw (p, q) e; stands = rw (p, q) })
+      test n false p q = rw h (record { kept = refl; answer = rw (p, q); stands = rw (p, q) })
 
-  pub show-bad : {k : Fault} → m ≡ Err k → z ≡ unplaced (c + fault_number k) → z ≡ shown ((need (c + unsigned_fault (parse_u32 w)) (unsigned_of (parse_u32 w)) >>= f) t i)
-  unfolding need ◌>>=◌
-  show-bad h k = rw (← e, h) k
-
-module _ {B : Type 0} (c n : ℕ) (f : ℕ → Reader B) (t : List ℕ) (i : TextLocation) {z : Outcome (Ended B)} where
-  pub show-zero : n ≡ 0 → z ≡ unplaced c → z ≡ shown ((need c (positive n) >>= f) t i)
-  unfolding need positive ◌>>=◌
-  show-zero h k = rw (eq-eqb n 0 h) k
-
-  pub show-positive : (n ≡ 0 → ⊥) → z ≡ shown (f n t i) → z ≡ shown ((need c (positive n) >>= f) t i)
-  unfolding need positive ◌>>=◌
-  show-positive h k = rw (ne_eqb n 0 h) k
+      go : (a : Answer ℕ Fault) → parse_u32 w ≡ a → Decodes (side (100 + 10 * number part) d w) r r m
+      go (Ok n) p = test n (eqb n 0) p refl
+      go (Err f) p = rw h (record { kept = refl; answer = rw p; stands = rw p })
 
 -- a look at the next byte
-module _ {A : Type 0} (c x : ℕ) (p : Reader A) (y : ℕ) (q : Reader A) (t : List ℕ) (i : TextLocation) {r : Taken (ℕ × TextLocation)} {z : Outcome (Ended A)} (e : r ≡ took_at t i) where
-  pub show-first : {b : ℕ} {n : TextLocation} → r ≡ Some (b, n) → b ≡ x → z ≡ shown (p t i) → z ≡ shown (fork c x p y q t i)
-  show-first m h k = rw (← fork-first c x p y q t i e m h refl) k
+module _ {A : Type 0} (x : ℕ) (p : Reader A) (y : ℕ) (q : Reader A) {r₀ : TextReader} {m : Taken ℕ} (e : m ≡ next_of r₀) where
+  module _ (c : ℕ) {r₁ : TextReader} {z : Answer A XbmDecodeError} {b : ℕ} (h : m ≡ Some b) where
+    pub decodes-first : b ≡ x → Decodes p r₀ r₁ z → Decodes (fork c x p y q) r₀ r₁ z
+    decodes-first g k =
+        let w = fork-first c x p y q r₀.text.now r₀.location e h g refl in record { kept = k.kept; answer = rw (← w) k.answer; stands = rw (← w) k.stands }
 
-  pub show-second : {b : ℕ} {n : TextLocation} → r ≡ Some (b, n) → (b ≡ x → ⊥) → b ≡ y → z ≡ shown (q t i) → z ≡ shown (fork c x p y q t i)
-  show-second m g h k = rw (← fork-second c x p y q t i e m g h refl) k
+    pub decodes-second : (b ≡ x → ⊥) → b ≡ y → Decodes q r₀ r₁ z → Decodes (fork c x p y q) r₀ r₁ z
+    decodes-second n g k =
+        let w = fork-second c x p y q r₀.text.now r₀.location e h n g refl in record { kept = k.kept; answer = rw (← w) k.answer; stands = rw (← w) k.stands }
 
-  pub show-neither : {b : ℕ} {n : TextLocation} → r ≡ Some (b, n) → (b ≡ x → ⊥) → (b ≡ y → ⊥) → z ≡ refused c n → z ≡ shown (fork c x p y q t i)
-  show-neither m g h k = rw (← fork-neither c x p y q t i e m g h refl) k
+  pub decodes-neither : (part : XbmPart) {r₁ : TextReader} {z : Answer A XbmDecodeError} → (m ≡ Some x → ⊥) → (m ≡ Some y → ⊥) → length r₀.text.now * 1 < 2 ^ 63 → r₁ ≡ moved_on r₀ → z ≡ Err (parse_of (broken part r₁.location))
+      → Decodes (fork (number part) x p y q) r₀ r₁ z
+  decodes-neither part {r₁} {z} f g l k h = rw h (go m refl)
+    where
+      go : (n : Taken ℕ) → m ≡ n → Decodes (fork (number part) x p y q) r₀ r₁ (Err (parse_of (broken part r₁.location)))
+      go None v =
+          let t : r₁ ≡ r₀ = k ∙ ap (λ p. moved_to p r₀) (end-onward r₀.text.now r₀.location e v) in
+          let w = fork-end (number part) x p y q r₀.text.now r₀.location e v refl in
+          rw t (record { kept = refl; answer = rw (← w); stands = rw (← w) })
+      go (Some b) v =
+          let t = reader-moved r₀ e v l k in
+          let w = fork-neither (number part) x p y q r₀.text.now r₀.location e v (λ u. f (v ∙ ap (λ n. Some n) u)) (λ u. g (v ∙ ap (λ n. Some n) u)) refl in
+          rw t (record { kept = refl; answer = rw (← w); stands = rw (← w) })
 
-  pub show-end : r ≡ None → z ≡ refused c i → z ≡ shown (fork c x p y q t i)
-  show-end m k = rw (← fork-end c x p y q t i e m refl) k
-
--- an error handed on by `?`
-pub header-err : (name : List ℕ) {r : Result (XbmHeaderData × TextLocation) XbmDecodeError} {x : XbmDecodeError} → r ≡ Err x → told_header name r ≡ told_error x
-header-err name h = rw h
-
-pub ruleset shown_laws = (line_laws, read_laws, header-err, show-value, show-bad, show-zero, show-positive, show-first, show-second, show-neither, show-end)
+pub ruleset rest_laws = (decodes-first, decodes-second, decodes-neither)

@@ -1,17 +1,21 @@
 -- What the header's code answers, as document 01's values; and what it leaves in the lent name buffer.
-use Rattle.std.specs.Prelude.{ℕ, ◌≡◌, List, length, take, ℤ, Option as Spot, Some, None, Result as Answer, Ok, Err}
+use Rattle.std.specs.Prelude.{ℕ, ◌≡◌, List, length, take, eqb, ℤ, Option as Spot, Some, None, Result as Answer, Ok, Err}
 use Rattle.std.proofs.Math.Option.{Option, none, some}
 use Rattle.text.specs.declared.TextLocation.{TextLocation}
-use Rattle.text.specs.Place.{start}
+use Rattle.text.specs.Place.{pick, start}
 use Rattle.text.specs.Reader.{Result, ok, stop, bad, Reader, ◌>>=◌}
 use Rattle.text.specs.Outcome.{Outcome, accepted, Ended, ending_at, shown}
 use Rattle.text.specs.Ascii.{ascii}
-use Rattle.text.specs.Leaf.{give, need, fork}
+use Rattle.text.specs.Leaf.{give, fork}
+use Rattle.lexical.specs.declared.XbmPart.{XbmPart}
 use Rattle.lexical.specs.Token.{overlay}
+use Rattle.integer.specs.declared.Fault.{Fault}
+use Rattle.integer.specs.Decimal.{parse_u32}
 use Rattle.error.specs.Error.{told_error}
 use Rattle.error.specs.declared.XbmDecodeError.{XbmDecodeError}
+use Rattle.error.specs.declared.XbmDecodeError.TheVariants.{DecodeInteger}
 use Rattle.symbol.specs.Symbol.{stored}
-use Rattle.lines.specs.Lines.{value, unsigned, positive, define_line}
+use Rattle.lines.specs.Lines.{value, side, define_line}
 use Rattle.hotspot.specs.Hotspot.{spot}
 use Rattle.header.specs.Header.{Head, ending, header}
 use Rattle.header.specs.declared.XbmHeaderData.{XbmHeaderData}
@@ -28,23 +32,27 @@ abbrev pub told_header : List ℕ → Answer (XbmHeaderData × TextLocation) Xbm
 told_header name (Ok r) = accepted (ending_at (head_of name r.0) r.1)
 told_header name (Err e) = told_error e
 
+-- the same of an answer that stands before its place
+abbrev pub headed : List ℕ → Answer XbmHeaderData XbmDecodeError → Answer Head XbmDecodeError
+headed name (Ok d) = Ok (head_of name d)
+headed name (Err e) = Err e
+
 -- ---- the header's parts, as the code reads them
 
--- the array line; the hotspot and the array line; what follows the height line; the height line too; all that follows the width's symbol
-unfoldable pub ending_of : List ℕ → ℕ → ℕ → Option (ℤ × ℤ) → Reader Head
-ending_of name w h o = ending name w h o
+-- a side of a token: a fault of its part, a zero's own error, or the value
+abbrev pub side_in : XbmPart → XbmDecodeError → Answer ℕ Fault → Answer ℕ XbmDecodeError
+side_in part zero (Ok n) = pick (eqb n 0) (Err zero) (Ok n)
+side_in part zero (Err f) = Err (DecodeInteger part f)
 
-abbrev pub spot_ending : List ℕ → ℕ → ℕ → Reader Head
-spot_ending name w h = spot name >>= λ s. ending_of name w h (some s)
+abbrev pub side_of : XbmPart → XbmDecodeError → List ℕ → Answer ℕ XbmDecodeError
+side_of part zero w = side_in part zero (parse_u32 w)
 
+-- what follows the height line; all that follows the width's symbol
 unfoldable pub rest_of : List ℕ → ℕ → ℕ → Reader Head
-rest_of name w h = fork 5 35 (spot_ending name w h) 115 (ending_of name w h none)
-
-unfoldable pub height_of : List ℕ → ℕ → Reader Head
-height_of name w = define_line 2 name (ascii "_height") >>= λ d. unsigned 120 d >>= λ v. need 22 (positive v) >>= λ h. rest_of name w h
+rest_of name w h = fork 5 35 (spot name >>= λ s. ending name w h (some s)) 115 (ending name w h none)
 
 unfoldable pub sides_of : List ℕ → Reader Head
-sides_of name = value 1 give >>= λ d. unsigned 110 d >>= λ v. need 21 (positive v) >>= λ w. height_of name w
+sides_of name = value 1 give >>= λ d. side 110 21 d >>= λ w. define_line 2 name (ascii "_height") >>= λ d. side 120 22 d >>= λ h. rest_of name w h
 
 -- the length of the name handed back: none of a refused header
 abbrev pub name_length : Result Head → ℕ

@@ -1,25 +1,27 @@
--- What an answer of the hotspot's readers, or of an integer's, tells of a reading that goes on.
-use Prim.Native.Nat.{ℕ, ◌+◌}
-use mathlib.Core.Path.{◌≡◌}
+-- What a step of the code says of a coordinate.
+use Prim.Native.Nat.{ℕ, ◌+◌, ◌*◌}
+use mathlib.Core.Path.{◌≡◌, refl, ap}
 use mathlib.Core.List.{List}
 use lib.IntN.{ℤ}
-use Rattle.std.specs.Prelude.{Result, Ok, Err}
-use Rattle.text.specs.declared.TextLocation.{TextLocation}
-use Rattle.text.specs.Outcome.{Outcome, accepted, unplaced, Ended, ending_at, shown}
+use Rattle.std.specs.Prelude.{Result as Answer, Ok, Err, MatchResult, IsErrAnd}
+use Rattle.std.proofs.lemmas.Result.{err_from_is_err_and}
+use Rattle.text.specs.declared.TextReader.{TextReader}
 use Rattle.text.specs.Leaf.{need}
+use Rattle.lexical.specs.declared.XbmPart.{XbmPart}
+use Rattle.lexical.specs.Lexical.{number}
 use Rattle.integer.specs.declared.Fault.{Fault}
-use Rattle.integer.specs.Decimal.{parse_i32, signed_of, signed_fault, fault_number}
-use Rattle.error.proofs.Told.{read_laws}
-use Rattle.lines.proofs.Told.{line_laws}
+use Rattle.integer.specs.Decimal.{parse_i32, signed_of, signed_fault}
+use Rattle.error.specs.declared.XbmDecodeError.{XbmDecodeError}
+use Rattle.error.specs.declared.XbmDecodeError.TheVariants.{DecodeInteger}
+use Rattle.error.specs.Error.{Decodes}
+use Rattle.lines.specs.Lines.{signed}
 
--- an integer of a token
-module _ (c : ℕ) (w : List ℕ) (t : List ℕ) (i : TextLocation) {m : Result ℤ Fault} (e : m ≡ parse_i32 w) {z : Outcome (Ended ℤ)} where
-  pub show-number : {n : ℤ} → m ≡ Ok n → z ≡ accepted (ending_at n i) → z ≡ shown (need (c + signed_fault (parse_i32 w)) (signed_of (parse_i32 w)) t i)
-  unfolding need
-  show-number h k = rw (← e, h) k
-
-  pub show-wrong : {f : Fault} → m ≡ Err f → z ≡ unplaced (c + fault_number f) → z ≡ shown (need (c + signed_fault (parse_i32 w)) (signed_of (parse_i32 w)) t i)
-  unfolding need
-  show-wrong h k = rw (← e, h) k
-
-pub ruleset hotspot_laws = (line_laws, read_laws, show-number, show-wrong)
+-- a token that is parsed, its faults told as those of a part
+pub decodes-signed : (part : XbmPart) (w : List ℕ) {r : TextReader} {m : Answer ℤ Fault} {z : Answer ℤ XbmDecodeError} (Q : Fault → XbmDecodeError → Type 0)
+    → MatchResult m (λ x. z ≡ Ok x) (λ e. IsErrAnd z (Q e)) → m ≡ parse_i32 w → ((e : Fault) (y : XbmDecodeError) → Q e y → y ≡ DecodeInteger part e) → Decodes (signed (100 + 10 * number part) w) r r z
+unfolding need
+decodes-signed part w {r} {m} {z} Q h e k = go m h e
+  where
+    go : (n : Answer ℤ Fault) → MatchResult n (λ x. z ≡ Ok x) (λ e. IsErrAnd z (Q e)) → n ≡ parse_i32 w → Decodes (signed (100 + 10 * number part) w) r r z
+    go (Ok x) h e = record { kept = refl; answer = rw (h, ← e); stands = rw (← e) }
+    go (Err f) h e = let (y, p, q) = err_from_is_err_and z h in record { kept = refl; answer = rw (p, k f y q, ← e); stands = rw (← e) }

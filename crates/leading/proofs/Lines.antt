@@ -15,15 +15,20 @@ use lib.Seq.{drop-cons}
 use lib.Dec.{eqb, ltb}
 use Rattle.std.specs.Prelude.{Option as Found, Some, None, ok_or, Result as Answer, Ok, Err}
 use Rattle.text.specs.declared.TextLocation.{TextLocation}
-use Rattle.text.specs.Place.{pick, has_left, along_line, past_line, rest, after, past, byte_of, peeked, peeked_at}
+use Rattle.text.specs.declared.TextReader.{TextReader}
+use Rattle.text.specs.TextReader.{left, next_of, passed_along, passed_line}
+use Rattle.text.specs.Place.{pick, rest, after, past, byte_of, peeked, peeked_at}
 use Rattle.text.specs.Rest.{Sound, newlines}
 use Rattle.text.proofs.Rest.{after-rest}
 use Rattle.text.proofs.PlaceLaws.{sound-rest, left-inside, left-none, along-past, line-past}
-use Rattle.text.specs.Reader.{Result, ok, stop, then, ◌>>=◌}
+use Rattle.text.proofs.Laws.{end_rest}
+use Rattle.text.specs.Reader.{Result, ok, stop, then, Reader, ◌>>=◌, ◌>>◌}
 use Rattle.text.specs.Leaf.{one, run, scan}
 use Rattle.lexical.specs.declared.XbmPart.{XbmPart}
 use Rattle.lexical.specs.declared.ParseError.{ParseError}
-use Rattle.lexical.specs.Lexical.{number, told, byte, skip, lead, leading}
+use Rattle.lexical.specs.Lexical.{number, broken, byte, skip, lead, leading}
+use Rattle.lexical.specs.Reads.{Reads}
+use Rattle.lexical.proofs.Laws.{reads-value, reads-refusal, reads-refused, Leads, leads-begin, leads-reads, leads-on}
 use Rattle.leading.specs.Line.{line_of, in_line, line_rest}
 
 -- ---- where a line ends
@@ -97,43 +102,55 @@ line_plain (b ∷ l) = go (eqb b 10) refl (line_plain l)
     go true h ih = refl
     go false h ih = rw (h, zero-add) ih
 
--- ---- skipping the rest of a line at a place
+-- ---- skipping the rest of a line where a reader stands
 
-module _ (c : ℕ) (t : List ℕ) (p : TextLocation) {f : Bool} (g : f ≡ has_left t p 1) where
-  pub line-none : f ≡ false → stop c p ≡ line_rest c t p
-  line-none h = sym (line_at c t [] p (left-none t p (sym g ∙ h)))
+module _ (part : XbmPart) (r : TextReader) {f : Bool} (g : f ≡ left 1 r) where
+  pub line-none : {x : ParseError} → f ≡ false → x ≡ broken part r.location → Reads (line_rest (number part)) r r (Err x)
+  line-none h s =
+      reads-refusal refl (ap (λ (x : ParseError). x.place) s) (rw s (sym (line_at (number part) r.text.now [] r.location (left-none r.text.now r.location (sym g ∙ h)))))
 
-  module _ (h : f ≡ true) where
-    pub line-from : byte_of p ≤ length t
-    line-from = omega (arith, (left-inside t p 1 (sym g ∙ h)).0)
+  pub line-from : f ≡ true → {p : TextLocation} → p ≡ r.location → byte_of p ≤ length r.text.now
+  line-from h q = omega (arith, ap byte_of q, (left-inside r.text.now r.location 1 (sym g ∙ h)).0)
 
-  module _ (h : f ≡ true) {e : ℕ} (k : e ≡ byte_of p + length (line_of (drop (byte_of p) t))) (m : length t * 1 < 2 ^ 63) where
-    size : e - byte_of p ≡ length (line_of (drop (byte_of p) t))
-    size = omega arith
+  module _ (h : f ≡ true) {p : TextLocation} (q : p ≡ r.location) {e : ℕ} (k : e ≡ byte_of p + length (line_of (drop (byte_of p) r.text.now))) (m : length r.text.now * 1 < 2 ^ 63) where
+    abbrev on : List ℕ
+    on = drop (byte_of r.location) r.text.now
 
-    inside : byte_of p + 1 ≤ length t
-    inside = (left-inside t p 1 (sym g ∙ h)).0
+    size : e - byte_of p ≡ length (line_of on)
+    size = rw (← q) (omega arith)
 
-    sound : Sound p
-    sound = (left-inside t p 1 (sym g ∙ h)).1
+    inside : byte_of r.location + 1 ≤ length r.text.now
+    inside = (left-inside r.text.now r.location 1 (sym g ∙ h)).0
 
-    pub line-to : {q : TextLocation} → e < length t → q ≡ past_line p (e - byte_of p) → ok tt q ≡ line_rest c t p
+    sound : Sound r.location
+    sound = (left-inside r.text.now r.location 1 (sym g ∙ h)).1
+
+    pub line-to : {r₁ : TextReader} → e < length r.text.now → r₁ ≡ passed_line (e - byte_of p) r → Reads (line_rest (number part)) r r₁ (Ok tt)
     line-to l w =
-        let x : length (line_of (drop (byte_of p) t)) < length (drop (byte_of p) t) = omega (arith, inside, length-drop (byte_of p) t) in
-        sym (line_at c t (drop (byte_of p) t) p (sound-rest t p sound)
-        ∙ rw (lt-ltb _ _ x, w, size, line-past p (line_of (drop (byte_of p) t)) sound (line_plain (drop (byte_of p) t)) (omega arith)))
+        let x : length (line_of on) < length on = omega (arith, inside, size, ap byte_of q, length-drop (byte_of r.location) r.text.now) in
+        reads-value (ap (λ r. r.text) w) (sym (line_at (number part) r.text.now on r.location (sound-rest r.text.now r.location sound)
+        ∙ rw (lt-ltb _ _ x, w, size, line-past r.location (line_of on) sound (line_plain on) (omega (arith, inside, x, length-drop (byte_of r.location) r.text.now)))))
 
-    pub line-out : {q : TextLocation} → length t ≤ e → q ≡ along_line p (e - byte_of p) → stop c q ≡ line_rest c t p
-    line-out l w =
-        let x : length (drop (byte_of p) t) ≤ length (line_of (drop (byte_of p) t)) = omega (arith, inside, length-drop (byte_of p) t) in
-        let y : byte_of p + length (line_of (drop (byte_of p) t)) < 2 ^ 64 = omega (arith, inside, line-short (drop (byte_of p) t), length-drop (byte_of p) t) in
-        sym (line_at c t (drop (byte_of p) t) p (sound-rest t p sound)
-        ∙ rw (le-ltb _ _ x, w, size, along-past p (line_of (drop (byte_of p) t)) sound (line_plain (drop (byte_of p) t)) y))
+    pub line-out : {r₁ : TextReader} {x : ParseError} → length r.text.now ≤ e → r₁ ≡ passed_along (e - byte_of p) r → x ≡ broken part r₁.location → Reads (line_rest (number part)) r r₁ (Err x)
+    line-out l w s =
+        let x : length on ≤ length (line_of on) = omega (arith, inside, size, ap byte_of q, length-drop (byte_of r.location) r.text.now) in
+        let y : byte_of r.location + length (line_of on) < 2 ^ 64 = omega (arith, inside, line-short on, length-drop (byte_of r.location) r.text.now) in
+        reads-refusal (ap (λ r. r.text) w) (ap (λ (x : ParseError). x.place) s) (rw s (sym (line_at (number part) r.text.now on r.location (sound-rest r.text.now r.location sound)
+        ∙ rw (le-ltb _ _ x, w, size, along-past r.location (line_of on) sound (line_plain on) y))))
+
+pub ruleset line_laws = (line-none, line-from, line-to, line-out)
 
 -- ---- lines before the first define line
 
 same_error : {A : Type 0} {x y : ParseError} → ◌≡◌ {A = Answer A ParseError} (Err x) (Err y) → x ≡ y
 same_error h = cc
+
+-- a reading that goes on as q does, once q has been read
+leads-then : {A B : Type 0} {p : Reader B} {r₀ : TextReader} (q : Reader A) (f : A → Reader B) {r r₁ : TextReader} {m : Answer A ParseError} {a : A} → Leads p r₀ (q >>= f) r → Reads q r r₁ m → m ≡ Ok a → Leads p r₀ (f a) r₁
+unfolding ◌>>=◌
+leads-then q f {r} {r₁} {a = a} i h n =
+    let e : ok a r₁.location ≡ q r.text.now r.location = rw n at h.answer in
+    record { kept = h.kept ∙ i.kept; same = rw (h.kept) (rw (← e) at i.same) }
 
 -- inside a line: its rest, and then lines again
 lead-line : (c : ℕ) (t l : List ℕ) (i : TextLocation) → rest t i ≡ l → leading c false t i ≡ then (line_rest c t i) (λ a e. leading c true t e)
@@ -153,30 +170,26 @@ found t i {r} {b} e m = go (rest t i) refl e
     go [] h u = let z : ◌≡◌ {A = ℕ} 0 1 = cc in absurd (omega arith)
     go (x ∷ l) h u = let y : x ≡ b = cc in (l, h ∙ ap (λ (n : ℕ). n ∷ l) y)
 
--- z is what skipping all lines gives
-module _ (c : ℕ) (t : List ℕ) (i : TextLocation) {z : Result (Unit {0})} {r : Found ℕ} (e : r ≡ peeked_at t i) where
-  pub lines-found : {b : ℕ} → r ≡ Some b → b ≡ 35 → leading c true t i ≡ z → ok tt i ≡ z
+module _ {m : Found ℕ} (r : TextReader) (e : m ≡ next_of r) where
+  pub lines-found : {b : ℕ} (c : ℕ) → m ≡ Some b → b ≡ 35 → Reads (leading c true) r r (Ok tt)
   unfolding leading run
-  lines-found {b} m h k = let (l, f) = found t i e m in rw (f, eq-eqb b 35 h) at k
+  lines-found {b} c h k = let (l, f) = found r.text.now r.location e h in reads-value refl (rw (f, eq-eqb b 35 k))
 
-  lines_none : r ≡ None → leading c true t i ≡ z → stop c i ≡ z
+  lines-none : (part : XbmPart) {x : ParseError} → m ≡ None → x ≡ broken part r.location → Reads (leading (number part) true) r r (Err x)
   unfolding leading run
-  lines_none m k = go (rest t i) e k
-    where
-      go : (l : List ℕ) → r ≡ peeked l → scan c lead (λ s. none) true l i ≡ z → stop c i ≡ z
-      go [] u k = k
-      go (x ∷ l) u k = let y : ◌≡◌ {A = ℕ} 0 1 = cc in absurd (omega arith)
+  lines-none part h s = reads-refusal refl (ap (λ (x : ParseError). x.place) s) (rw (s, end_rest r.text.now r.location e h))
 
-  skipped : {b : ℕ} → r ≡ Some b → (b ≡ 35 → ⊥) → leading c true t i ≡ z → then (line_rest c t i) (λ a e. leading c true t e) ≡ z
-  unfolding leading run
-  skipped {b} m h k = let (l, f) = found t i e m in sym (lead-line c t (b ∷ l) i f) ∙ rw f (rw (f, ne_eqb b 35 h) at k)
+  -- a line that no `#` begins: its rest, and then lines again
+  skipped : {b : ℕ} (c : ℕ) → m ≡ Some b → (b ≡ 35 → ⊥) → (line_rest c >> leading c true) r.text.now r.location ≡ leading c true r.text.now r.location
+  unfolding leading run ◌>>=◌
+  skipped {b} c h k = let (l, f) = found r.text.now r.location e h in sym (lead-line c r.text.now (b ∷ l) r.location f) ∙ rw (f, ne_eqb b 35 k)
 
-  module _ {b : ℕ} (m : r ≡ Some b) (h : b ≡ 35 → ⊥) {s : Answer TextLocation ParseError} (g : told s ≡ line_rest c t i) (k : leading c true t i ≡ z) where
-    pub lines-on : {q : TextLocation} → s ≡ Ok q → leading c true t q ≡ z
-    lines-on {q} n = ap (λ (x : Result (Unit {0})). then x (λ a e. leading c true t e)) (sym (ap told n) ∙ g) ∙ skipped m h k
+  module _ {b : ℕ} (h : m ≡ Some b) (k : b ≡ 35 → ⊥) (c : ℕ) {r₁ : TextReader} {s : Answer (Unit {0}) ParseError} (g : Reads (line_rest c) r r₁ s) where
+    pub lines-on : {p : Reader (Unit {0})} {r₀ : TextReader} → Leads p r₀ (leading c true) r → s ≡ Ok tt → Leads p r₀ (leading c true) r₁
+    lines-on i n = leads-then (line_rest c) (λ a. leading c true) (leads-on i refl (skipped c h k)) g n
 
-    pub lines_end : {x : ParseError} {r : Answer TextLocation ParseError} → s ≡ Err x → r ≡ Err x → told r ≡ z
-    lines_end {x} n u = ap told u ∙ ap (λ (x : Result (Unit {0})). then x (λ a e. leading c true t e)) (sym (ap told n) ∙ g) ∙ skipped m h k
+    pub lines-end : {x : ParseError} {z : Answer (Unit {0}) ParseError} → s ≡ Err x → z ≡ Err x → Reads (leading c true) r r₁ z
+    lines-end n u = leads-reads (record { kept = refl; same = skipped c h k }) (reads-refused (line_rest c) (λ a. leading c true) g n u)
 
 -- a line skipped leaves fewer bytes
 line-less : (c : ℕ) (t l : List ℕ) (i q : TextLocation) → rest t i ≡ l → ok tt q ≡ line_rest c t i → length (rest t q) < length l
@@ -187,14 +200,13 @@ line-less c t (b ∷ l) i q e h = go (eqb b 10) refl (λ u. line-less c t l (aft
     go true y ih = let z : ok tt q ≡ ok tt (after b i) = h ∙ line-newline c t i b e y in let w : q ≡ after b i = cc in rw (w, after-rest t i e) (omega arith)
     go false y ih = let a : length (rest t q) < length l = ih (h ∙ line_other c t i b e y) in omega arith
 
-pub lines-less : (c : ℕ) (t : List ℕ) (i : TextLocation) {s : Answer TextLocation ParseError} {q : TextLocation} → told s ≡ line_rest c t i → s ≡ Ok q → length (rest t q) < length (rest t i)
-lines-less c t i {s} {q} g n = line-less c t (rest t i) i q refl (sym (ap told n) ∙ g)
-
-pub ruleset line_laws = (line-none, line-from, line-to, line-out)
+pub lines-less : (c : ℕ) {r r₁ : TextReader} {s : Answer (Unit {0}) ParseError} → Reads (line_rest c) r r₁ s → s ≡ Ok tt → length (rest r₁.text.now r₁.location) < length (rest r.text.now r.location)
+lines-less c {r} {r₁} g n =
+    let a : ok tt r₁.location ≡ line_rest c r.text.now r.location = rw n at g.answer in
+    rw g.kept (line-less c r.text.now (rest r.text.now r.location) r.location r₁.location refl a)
 
 -- the exit of a `?` on a look at the next byte
-pub lines-over : (part : XbmPart) (t : List ℕ) (i : TextLocation) {z : Result (Unit {0})} {r : Found ℕ} {m : Answer TextLocation ParseError} {x : ParseError} → r ≡ peeked_at t i → r ≡ None
-    → Err x ≡ ok_or r (record { part = part; place = i }) → m ≡ Err x → leading (number part) true t i ≡ z → told m ≡ z
-lines-over part t i {x = x} e n u h k = let y : x ≡ record { part = part; place = i } = same_error (rw n at u) in rw (h, y) (lines_none (number part) t i e n k)
+pub lines-over : (part : XbmPart) (r : TextReader) {m : Found ℕ} {x y : ParseError} {z : Answer (Unit {0}) ParseError} → m ≡ next_of r → m ≡ None → Err x ≡ ok_or m y → y ≡ broken part r.location → z ≡ Err x → Reads (leading (number part) true) r r z
+lines-over part r {x = x} {y = y} e n u s h = let w : x ≡ y = same_error (rw n at u) in rw h (lines-none r e part n (w ∙ s))
 
-pub ruleset lines_laws = (lines-found, lines-over, lines-on, lines_end, lines-less)
+pub ruleset lines_laws = (lines-found, lines-over, lines-on, lines-end, lines-less, leads-begin, leads-reads)

@@ -2,11 +2,12 @@
 #![tactic(auto)]
 
 ghost use Rattle.std.specs.Prelude.{true, ◌≡◌, ◌+◌, length, drop};
-ghost use Rattle.lexical.specs.Lexical.{number, told, leading};
+ghost use Rattle.lexical.specs.Lexical.{number, leading};
+ghost use Rattle.lexical.specs.Reads.{Reads};
 ghost use Rattle.leading.specs.Line.{line_of, line_rest};
 
 use lexical::{ParseError, XbmPart};
-use text::{TextLocation, along, has_left, past_line, peek};
+use text::TextReader;
 
 // The first newline from `from` on, or the end. By index: `position` takes a fifth more instructions.
 fn line_end(text: &[u8], from: usize) -> usize
@@ -21,36 +22,40 @@ fn line_end(text: &[u8], from: usize) -> usize
 }
 
 // The rest of a line, with its newline.
-fn skip_line(text: &[u8], place: TextLocation, part: XbmPart) -> Result<TextLocation, ParseError>
-    ensures { told result ≡ line_rest (number part) text.now place }
+fn skip_line(r: &mut TextReader<'_>, part: XbmPart) -> Result<(), ParseError>
+    ensures { Reads (line_rest (number part)) r.old r.new result }
 {
-    if !has_left(text, place, 1) {
-        return Err(ParseError { part, place });
+    if !r.has_left(1) {
+        return Err(ParseError::at(r, part));
     }
-    let from = place.byte.0 as usize;
-    let end = line_end(text, from);
+    let from = r.loc().byte.0 as usize;
+    let end = line_end(r.text, from);
     let size = (end - from) as u64;
-    if end < text.len() {
-        Ok(past_line(place, size))
+    if end < r.text.len() {
+        r.pass_line(size);
+        Ok(())
     } else {
-        Err(ParseError {
-            part,
-            place: along(place, size),
-        })
+        r.pass_along(size);
+        Err(ParseError::at(r, part))
     }
 }
 
-// Skip whole lines, up to the first that begins with `#`.
-pub fn skip_non_define_lines(
-    text: &[u8],
-    place: TextLocation,
-    part: XbmPart,
-) -> Result<TextLocation, ParseError>
-    ensures { told result ≡ leading (number part) true text.now place }
+// Whole lines, up to the first that begins with `#`.
+fn skip_lines(r: &mut TextReader<'_>, part: XbmPart) -> Result<(), ParseError>
+    ensures { Reads (leading (number part) true) r.old r.new result }
 {
-    let mut at = place;
-    while peek(text, at).ok_or(ParseError { part, place: at })? != b'#' {
-        at = skip_line(text, at, part)?;
+    while r.peek().ok_or(ParseError::at(r, part))? != b'#' {
+        skip_line(r, part)?;
     }
-    Ok(at)
+    Ok(())
+}
+
+// Skip whole lines, up to the first that begins with `#`. For speed a copy moves, and is stored back.
+pub fn skip_non_define_lines(r: &mut TextReader<'_>, part: XbmPart) -> Result<(), ParseError>
+    ensures { Reads (leading (number part) true) r.old r.new result }
+{
+    let mut at = *r;
+    let answer = skip_lines(&mut at, part);
+    *r = at;
+    answer
 }

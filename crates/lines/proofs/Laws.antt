@@ -1,42 +1,32 @@
--- What a step of the code says of a line's token.
-use Prim.Native.Nat.{ℕ, ◌≤◌}
-use native.Mathlib.Omega.{arith}
-use mathlib.Core.Path.{◌≡◌, sym}
-use mathlib.Core.List.{List}
-use lib.ListN.{length, take}
-use lib.Seq.{length-take-le}
-use Rattle.std.specs.Prelude.{Result as Answer, Ok, Err}
-use Rattle.text.specs.declared.TextLocation.{TextLocation}
+-- What a step of the code says of a look at the next byte.
+use Prim.Native.Nat.{ℕ, ◌*◌, ◌^◌, ◌<◌}
+use mathlib.Core.Path.{◌≡◌, refl, ap}
+use lib.ListN.{length}
+use Rattle.std.specs.Prelude.{Option as Taken, Some, None, Result as Answer, Err}
+use Rattle.text.specs.declared.TextReader.{TextReader}
+use Rattle.text.specs.TextReader.{next_of, passed}
+use Rattle.text.specs.Reader.{Reader}
+use Rattle.text.specs.Leaf.{fork}
+use Rattle.text.proofs.Reading.{fork-first, fork-second, fork-neither, fork-end}
 use Rattle.lexical.specs.declared.ParseError.{ParseError}
-use Rattle.text.specs.Reader.{◌>>=◌}
-use Rattle.text.specs.Leaf.{give}
-use Rattle.text.proofs.Reading.{bind_laws}
-use Rattle.lexical.specs.Lexical.{told}
-use Rattle.lexical.specs.Token.{size_of}
-use Rattle.lexical.proofs.Tokens.{token_laws}
-use Rattle.lines.specs.Lines.{value, symbol, define_line, Got}
+use Rattle.lexical.specs.declared.XbmPart.{XbmPart}
+use Rattle.lexical.specs.Lexical.{number, broken}
+use Rattle.lexical.specs.Reads.{Reads}
+use Rattle.lexical.proofs.Laws.{leads-reads, reads-refusal, passed-kept}
 
--- an integer's token and the line's end
-pub ruleset value_laws = (bind_laws, token_laws)
+module _ {A : Type 0} (part : XbmPart) (x : ℕ) (p : Reader A) (y : ℕ) (q : Reader A) (r : TextReader) {m : Taken ℕ} (e : m ≡ next_of r) where
+  pub reads-first : {b : ℕ} {r₁ : TextReader} {z : Answer A ParseError} → m ≡ Some b → b ≡ x → Reads p r r₁ z → Reads (fork (number part) x p y q) r r₁ z
+  reads-first h k = leads-reads (record { kept = refl; same = fork-first (number part) x p y q r.text.now r.location e h k refl })
 
--- a define line: its symbol, and then its token
-module _ (c : ℕ) (name z t : List ℕ) (i : TextLocation) (later : List ℕ) {m : Answer TextLocation ParseError} (e : told m ≡ symbol c name z t i) where
-  pub define-to : {p : TextLocation} {r : Answer (ℕ × TextLocation) ParseError} → m ≡ Ok p → Got (value c give) t p later r → Got (define_line c name z) t i later r
-  unfolding define_line ◌>>=◌
-  define-to h k = record { answer = rw (← e, h) k.answer; fits = k.fits }
+  pub reads-second : {b : ℕ} {r₁ : TextReader} {z : Answer A ParseError} → m ≡ Some b → (b ≡ x → ⊥) → b ≡ y → Reads q r r₁ z → Reads (fork (number part) x p y q) r r₁ z
+  reads-second h n k = leads-reads (record { kept = refl; same = fork-second (number part) x p y q r.text.now r.location e h n k refl })
 
-  pub define-refused : {x : ParseError} {r : Answer (ℕ × TextLocation) ParseError} → m ≡ Err x → r ≡ Err x → Got (define_line c name z) t i later r
-  unfolding define_line ◌>>=◌
-  define-refused h k = rw k (record { answer = rw (← e, h); fits = omega arith })
+  pub reads-neither : {b : ℕ} {r₁ : TextReader} {z : ParseError} → m ≡ Some b → (b ≡ x → ⊥) → (b ≡ y → ⊥) → length r.text.now * 1 < 2 ^ 63 → r₁ ≡ passed b r → z ≡ broken part r₁.location → Reads (fork (number part) x p y q) r r₁ (Err z)
+  reads-neither h n k l t s =
+      let w = passed-kept r r l refl e h t in
+      reads-refusal (ap (λ r. r.text) w) (ap (λ (x : ParseError). x.place) s) (rw (s, w) (fork-neither (number part) x p y q r.text.now r.location e h n k refl))
 
-pub ruleset define_laws = (define-to, define-refused)
+  pub reads-end : {z : ParseError} → m ≡ None → z ≡ broken part r.location → Reads (fork (number part) x p y q) r r (Err z)
+  reads-end h s = reads-refusal refl (ap (λ (x : ParseError). x.place) s) (rw s (fork-end (number part) x p y q r.text.now r.location e h refl))
 
--- what was stored is within the buffer
-module _ (m : Answer (ℕ × TextLocation) ParseError) (later : List ℕ) (e : size_of m ≤ length later) {n : ℕ} {q : TextLocation} (h : m ≡ Ok (n, q)) where
-  pub size_fits : n ≤ length later
-  size_fits = rw h at e
-
-  pub size-taken : n ≡ length (take n later)
-  size-taken = sym (length-take-le n later size_fits)
-
-pub ruleset size_laws = (size_fits, size-taken)
+pub ruleset look_laws = (reads-first, reads-second, reads-neither, reads-end)

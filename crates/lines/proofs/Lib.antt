@@ -1,4 +1,3 @@
 -- The theorems of `lines` and what its proofs share, by module.
 pub mod Lines
 pub mod Laws
-pub mod Told

@@ -1,14 +1,12 @@
 -- The lines of a header: an integer's, one whose symbol is known, the width line, the line that opens the array.
-use Rattle.std.specs.Prelude.{ℕ, ◌+◌, ◌≤◌, ◌≡◌, List, length, eqb, ℤ, Result as Answer}
+use Rattle.std.specs.Prelude.{ℕ, ◌+◌, List, eqb, ℤ}
 use Rattle.std.proofs.Math.Option.{Option, none, some}
-use Rattle.text.specs.declared.TextLocation.{TextLocation}
 use Rattle.text.specs.Ascii.{ascii}
 use Rattle.text.specs.Place.{pick}
 use Rattle.text.specs.Reader.{Reader, ◌>>=◌, ◌>>◌}
 use Rattle.text.specs.Leaf.{give, want, need, fork}
 use Rattle.lexical.specs.Lexical.{is_loose, fixed, gap, line_end}
-use Rattle.lexical.specs.declared.ParseError.{ParseError}
-use Rattle.lexical.specs.Token.{token, told_token, size_of}
+use Rattle.lexical.specs.Token.{token}
 use Rattle.integer.specs.Decimal.{parse_u32, parse_i32, unsigned_of, signed_of, unsigned_fault, signed_fault}
 use Rattle.symbol.specs.Symbol.{hash_define, end_width, before}
 
@@ -64,8 +62,3 @@ element c = fork c 99 (fixed c (ascii "char")) 117 (unsigned_char c)
 unfoldable pub array_line : ℕ → List ℕ → Reader (Unit {0})
 array_line c name =
     fixed c (ascii "static") >> gap c >> element c >> gap c >> fixed c name >> fixed c (ascii "_bits[]") >> gap c >> fixed c (ascii "=") >> gap c >> fixed c (ascii "{")
-
--- reading a token into the digits: what p reads, within them
-pub record Got (p : Reader (List ℕ)) (text : List ℕ) (place : TextLocation) (later : List ℕ) (r : Answer (ℕ × TextLocation) ParseError) : Type 0 where
-  pub answer : told_token later r ≡ p text place
-  pub fits : size_of r ≤ length later

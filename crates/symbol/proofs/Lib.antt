@@ -1,4 +1,5 @@
 -- The theorems of `symbol` and what its proofs share, by module.
 pub mod SymbolLaws
 pub mod Ends
+pub mod Taken
 pub mod Laws

@@ -1,5 +1,5 @@
 -- The width's symbol, a name and `_width`: what precedes it, the name in it, and the bytes that reading it stores.
-use Rattle.std.specs.Prelude.{ℕ, ◌-◌, ◌≤◌, ◌≡◌, Bool, true, false, List, [], ◌∷◌, length, take, drop, leb, eqb, Result as Answer}
+use Rattle.std.specs.Prelude.{ℕ, ◌-◌, ◌≤◌, ◌≡◌, Bool, true, false, List, [], ◌∷◌, length, take, drop, leb, eqb, Result as Answer, Ok, Err}
 use Rattle.std.proofs.Math.Option.{Option, none, some}
 use Rattle.text.specs.Ascii.{ascii}
 use Rattle.text.specs.Place.{pick, start}
@@ -7,8 +7,10 @@ use Rattle.text.specs.Reader.{Result, ok, stop, bad, end_of, Reader, ◌>>=◌, 
 use Rattle.text.specs.Leaf.{want}
 use Rattle.lexical.specs.Lexical.{is_loose, fixed, gap, leading}
 use Rattle.text.specs.declared.TextLocation.{TextLocation}
+use Rattle.text.specs.declared.TextReader.{TextReader}
 use Rattle.lexical.specs.declared.ParseError.{ParseError}
-use Rattle.lexical.specs.Token.{token, span, overlay, told_token, size_of}
+use Rattle.lexical.specs.Token.{token, span, overlay}
+use Rattle.lexical.specs.Reads.{Reads}
 
 -- ---- words
 
@@ -47,11 +49,24 @@ stored_in limit t (ok a i) = span t i (end_of (token is_loose 1 limit t i))
 stored_in limit t (stop c e) = []
 stored_in limit t (bad c e) = []
 
+-- where reading begins at a place; and at the text's start
+abbrev pub stored_from : TextLocation → ℕ → List ℕ → List ℕ
+stored_from p limit t = stored_in limit t (opening t p)
+
 unfoldable pub stored : ℕ → List ℕ → List ℕ
-stored limit t = stored_in limit t (opening t start)
+stored limit t = stored_from start limit t
+
+-- an answer: the name stands at the start of what the buffer holds
+abbrev pub named : List ℕ → Answer ℕ ParseError → Answer (List ℕ) ParseError
+named held (Ok n) = Ok (take n held)
+named held (Err x) = Err x
+
+abbrev pub size_of : Answer ℕ ParseError → ℕ
+size_of (Ok n) = n
+size_of (Err x) = 0
 
 -- reading the width's symbol into a lent buffer: the name in it, within the buffer; and the buffer later
-pub record Symboled (text lent later : List ℕ) (r : Answer (ℕ × TextLocation) ParseError) : Type 0 where
-  pub answer : told_token later r ≡ width_symbol (length lent) text start
+pub record Symboled (old new : TextReader) (lent later : List ℕ) (r : Answer ℕ ParseError) : Type 0 where
+  pub reads : Reads (width_symbol (length lent)) old new (named later r)
   pub fits : size_of r ≤ length later
-  pub symbol : later ≡ overlay (stored (length lent) text) lent
+  pub symbol : later ≡ overlay (stored_from old.location (length lent) old.text.now) lent

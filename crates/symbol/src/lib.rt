@@ -2,13 +2,12 @@
 #![tactic(auto)]
 
 ghost use Rattle.std.specs.Prelude.{◌≡◌, length};
-ghost use Rattle.text.specs.Place.{start};
-ghost use Rattle.lexical.specs.Lexical.{told};
+ghost use Rattle.lexical.specs.Reads.{Reads};
 ghost use Rattle.symbol.specs.Symbol.{opening, Symboled};
 
 use leading::skip_non_define_lines;
 use lexical::{ParseError, XbmPart, read_fixed_string, read_until_whitespace, read_whitespace_gap};
-use text::{TextLocation, beginning};
+use text::TextReader;
 
 // A limit on the length of a #define symbol (name and `_width`), for callers that have no other: the name buffer's length is the limit.
 pub const MAX_IDENTIFIER_LENGTH: usize = 256;
@@ -21,25 +20,25 @@ pub fn name_buffer() -> [u8; MAX_IDENTIFIER_LENGTH]
 }
 
 // What precedes the width's symbol: leading lines, `#define`, a gap.
-fn read_opening(text: &[u8]) -> Result<TextLocation, ParseError>
-    ensures { told result ≡ opening text.now start }
+fn read_opening(r: &mut TextReader<'_>) -> Result<(), ParseError>
+    ensures { Reads opening r.old r.new result }
 {
-    let place = skip_non_define_lines(text, beginning(), XbmPart::Width)?;
-    let place = read_fixed_string(text, place, b"#define", XbmPart::Width)?;
-    read_whitespace_gap(text, place, XbmPart::Width)
+    skip_non_define_lines(r, XbmPart::Width)?;
+    read_fixed_string(r, b"#define", XbmPart::Width)?;
+    read_whitespace_gap(r, XbmPart::Width)
 }
 
-// The width's symbol, stored in `name`; the answer has the length of the name in it.
-pub fn read_width_symbol(text: &[u8], name: &mut [u8]) -> Result<(usize, TextLocation), ParseError>
-    ensures { Symboled text.now name.old name.new result }
+// The width's symbol, stored in `name`, also what was taken of one that is too long; the answer is the length of the name in it.
+pub fn read_width_symbol(r: &mut TextReader<'_>, name: &mut [u8]) -> Result<usize, ParseError>
+    ensures { Symboled r.old r.new name.old name.new result }
 {
-    let place = read_opening(text)?;
-    let (n, place) = read_until_whitespace(text, place, name, XbmPart::Width)?;
-    match name[..n].strip_suffix(b"_width") {
-        Some(front) => Ok((front.len(), place)),
-        None => Err(ParseError {
-            part: XbmPart::Width,
-            place,
-        }),
+    read_opening(r)?;
+    let start = r.loc();
+    let symbol = read_until_whitespace(r, name.len(), XbmPart::Width);
+    let taken = r.taken_since(start);
+    name[..taken.len()].copy_from_slice(taken);
+    match symbol?.strip_suffix(b"_width") {
+        Some(front) => Ok(front.len()),
+        None => Err(ParseError::at(r, XbmPart::Width)),
     }
 }

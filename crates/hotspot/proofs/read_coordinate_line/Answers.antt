@@ -1,25 +1,18 @@
 -- What the search leaves of `read_coordinate_line`.
-use Rattle.std.proofs.Common.{rules}
+use Rattle.std.proofs.Common.{rules, ap}
+use Rattle.lexical.specs.Reads.{lent}
 use Rattle.lexical.proofs.Laws.{refused-as}
-use Rattle.error.specs.declared.XbmDecodeError.TheVariants.{DecodeInteger}
-use Rattle.error.proofs.Told.{mapped-ok, mapped-err}
-use Rattle.hotspot.proofs.Told.{hotspot_laws}
-use Rattle.lines.proofs.Laws.{size_laws}
+use Rattle.error.proofs.Told.{decodes_laws}
+use Rattle.hotspot.proofs.Told.{decodes-signed}
 use Rattle.hotspot.specs.Hotspot.{coordinate_line}
 use Rattle.hotspot.proofs.read_coordinate_line.Goals as goal
 
-pub returns-in_err-n : goal.returns-in_err-n
+pub returns-in_err-digits : goal.returns-in_err-digits
 unfolding coordinate_line
-returns-in_err-n c = search (size_laws, hotspot_laws, c.in_err-n.was, refused-as c.from_residual.ensures.1, rules)
-
-pub returns-in_err-z : goal.returns-in_err-z
-unfolding coordinate_line
-returns-in_err-z c =
-    let (f, p, q) = mapped-err c.parse_i32.result _ (DecodeInteger c.args.part) c.map_err.ensures.cases (λ e y k. search rules) c.in_err-z.was in
-    rw (refused-as c.from_residual-in_err-z.ensures.1, q) (search (size_laws, hotspot_laws, c.in_ok-n.was, rules))
+returns-in_err-digits c = search (decodes_laws, ap lent c.in_err-digits.was, refused-as c.from_residual.ensures.1, rules)
 
 pub returns : goal.returns
 unfolding coordinate_line
 returns c =
-    let p = mapped-ok c.parse_i32.result _ c.map_err.ensures.cases c.in_ok-z.was in
-    search (size_laws, hotspot_laws, c.in_ok-n.was, p, rules) depth 8
+    let h = decodes-signed c.args.part c.in_ok-digits.digits.now {r = c.read_define_line.new.r} _ c.map_err.ensures.cases c.parse_i32.ensures (λ e y k. search rules) in
+    search (decodes_laws, ap lent c.in_ok-digits.was, rules)

@@ -6,8 +6,8 @@ use Rattle.leading.proofs.skip_line.Goals as goal
 pub returns-then-not-has_left : goal.returns-then-not-has_left
 returns-then-not-has_left c = search (line_laws, rules)
 
-pub returns-then-end-text : goal.returns-then-end-text
-returns-then-end-text c = search (line_laws, rules)
+pub returns-then-end-r : goal.returns-then-end-r
+returns-then-end-r c = search (line_laws, rules)
 
-pub returns-else-end-text : goal.returns-else-end-text
-returns-else-end-text c = search (line_laws, rules)
+pub returns-else-end-r : goal.returns-else-end-r
+returns-else-end-r c = search (line_laws, rules)

@@ -1,45 +1,45 @@
 -- What the search leaves of `read_array_line`.
 use Rattle.std.proofs.Common.{rules}
-use Rattle.lexical.proofs.Laws.{chain_laws, refused-as}
+use Rattle.lexical.proofs.Laws.{reads-after, reads-refused, refused-as}
 use Rattle.lines.specs.Lines.{array_line}
 use Rattle.lines.proofs.read_array_line.Goals as goal
 
-pub returns-in_err-a : goal.returns-in_err-a
+pub returns-in_err-read_fixed_string : goal.returns-in_err-read_fixed_string
 unfolding array_line
-returns-in_err-a c = search (chain_laws, c.in_err-a.ensures, refused-as c.from_residual.ensures.1, rules) depth 24
+returns-in_err-read_fixed_string c = search (reads-after, reads-refused, c.in_err-read_fixed_string.ensures, refused-as c.from_residual.ensures.1, rules) depth 24
 
-pub returns-in_err-b : goal.returns-in_err-b
+pub returns-in_err-read_whitespace_gap : goal.returns-in_err-read_whitespace_gap
 unfolding array_line
-returns-in_err-b c = search (chain_laws, c.in_ok-a.ensures, c.in_err-b.ensures, refused-as c.from_residual-in_err-b.ensures.1, rules) depth 24
+returns-in_err-read_whitespace_gap c = search (reads-after, reads-refused, c.in_ok-read_fixed_string.ensures, c.in_err-read_whitespace_gap.ensures, refused-as c.from_residual-in_err-read_whitespace_gap.ensures.1, rules) depth 24
 
-pub returns-in_err-c : goal.returns-in_err-c
+pub returns-in_err-read_element : goal.returns-in_err-read_element
 unfolding array_line
-returns-in_err-c c = search (chain_laws, c.in_ok-a.ensures, c.in_ok-b.ensures, c.in_err-c.ensures, refused-as c.from_residual-in_err-c.ensures.1, rules) depth 24
+returns-in_err-read_element c = search (reads-after, reads-refused, c.in_ok-read_fixed_string.ensures, c.in_ok-read_whitespace_gap.ensures, c.in_err-read_element.ensures, refused-as c.from_residual-in_err-read_element.ensures.1, rules) depth 24
 
-pub returns-in_err-d : goal.returns-in_err-d
+pub returns-in_err-read_whitespace_gap-2 : goal.returns-in_err-read_whitespace_gap-2
 unfolding array_line
-returns-in_err-d c = search (chain_laws, c.in_ok-a.ensures, c.in_ok-b.ensures, c.in_ok-c.ensures, c.in_err-d.ensures, refused-as c.from_residual-in_err-d.ensures.1, rules) depth 24
+returns-in_err-read_whitespace_gap-2 c = search (reads-after, reads-refused, c.in_ok-read_fixed_string.ensures, c.in_ok-read_whitespace_gap.ensures, c.in_ok-read_element.ensures, c.in_err-read_whitespace_gap-2.ensures, refused-as c.from_residual-in_err-read_whitespace_gap-2.ensures.1, rules) depth 24
 
-pub returns-in_err-e : goal.returns-in_err-e
+pub returns-in_err-read_fixed_string-2 : goal.returns-in_err-read_fixed_string-2
 unfolding array_line
-returns-in_err-e c = search (chain_laws, c.in_ok-a.ensures, c.in_ok-b.ensures, c.in_ok-c.ensures, c.in_ok-d.ensures, c.in_err-e.ensures, refused-as c.from_residual-in_err-e.ensures.1, rules) depth 24
+returns-in_err-read_fixed_string-2 c = search (reads-after, reads-refused, c.in_ok-read_fixed_string.ensures, c.in_ok-read_whitespace_gap.ensures, c.in_ok-read_element.ensures, c.in_ok-read_whitespace_gap-2.ensures, c.in_err-read_fixed_string-2.ensures, refused-as c.from_residual-in_err-read_fixed_string-2.ensures.1, rules) depth 24
 
-pub returns-in_err-f : goal.returns-in_err-f
+pub returns-in_err-read_fixed_string-3 : goal.returns-in_err-read_fixed_string-3
 unfolding array_line
-returns-in_err-f c = search (chain_laws, c.in_ok-a.ensures, c.in_ok-b.ensures, c.in_ok-c.ensures, c.in_ok-d.ensures, c.in_ok-e.ensures, c.in_err-f.ensures, refused-as c.from_residual-in_err-f.ensures.1, rules) depth 24
+returns-in_err-read_fixed_string-3 c = search (reads-after, reads-refused, c.in_ok-read_fixed_string.ensures, c.in_ok-read_whitespace_gap.ensures, c.in_ok-read_element.ensures, c.in_ok-read_whitespace_gap-2.ensures, c.in_ok-read_fixed_string-2.ensures, c.in_err-read_fixed_string-3.ensures, refused-as c.from_residual-in_err-read_fixed_string-3.ensures.1, rules) depth 24
 
-pub returns-in_err-g : goal.returns-in_err-g
+pub returns-in_err-read_whitespace_gap-3 : goal.returns-in_err-read_whitespace_gap-3
 unfolding array_line
-returns-in_err-g c = search (chain_laws, c.in_ok-a.ensures, c.in_ok-b.ensures, c.in_ok-c.ensures, c.in_ok-d.ensures, c.in_ok-e.ensures, c.in_ok-f.ensures, c.in_err-g.ensures, refused-as c.from_residual-in_err-g.ensures.1, rules) depth 24
+returns-in_err-read_whitespace_gap-3 c = search (reads-after, reads-refused, c.in_ok-read_fixed_string.ensures, c.in_ok-read_whitespace_gap.ensures, c.in_ok-read_element.ensures, c.in_ok-read_whitespace_gap-2.ensures, c.in_ok-read_fixed_string-2.ensures, c.in_ok-read_fixed_string-3.ensures, c.in_err-read_whitespace_gap-3.ensures, refused-as c.from_residual-in_err-read_whitespace_gap-3.ensures.1, rules) depth 24
 
-pub returns-in_err-h : goal.returns-in_err-h
+pub returns-in_err-read_fixed_string-4 : goal.returns-in_err-read_fixed_string-4
 unfolding array_line
-returns-in_err-h c = search (chain_laws, c.in_ok-a.ensures, c.in_ok-b.ensures, c.in_ok-c.ensures, c.in_ok-d.ensures, c.in_ok-e.ensures, c.in_ok-f.ensures, c.in_ok-g.ensures, c.in_err-h.ensures, refused-as c.from_residual-in_err-h.ensures.1, rules) depth 24
+returns-in_err-read_fixed_string-4 c = search (reads-after, reads-refused, c.in_ok-read_fixed_string.ensures, c.in_ok-read_whitespace_gap.ensures, c.in_ok-read_element.ensures, c.in_ok-read_whitespace_gap-2.ensures, c.in_ok-read_fixed_string-2.ensures, c.in_ok-read_fixed_string-3.ensures, c.in_ok-read_whitespace_gap-3.ensures, c.in_err-read_fixed_string-4.ensures, refused-as c.from_residual-in_err-read_fixed_string-4.ensures.1, rules) depth 24
 
-pub returns-in_err-i : goal.returns-in_err-i
+pub returns-in_err-read_whitespace_gap-4 : goal.returns-in_err-read_whitespace_gap-4
 unfolding array_line
-returns-in_err-i c = search (chain_laws, c.in_ok-a.ensures, c.in_ok-b.ensures, c.in_ok-c.ensures, c.in_ok-d.ensures, c.in_ok-e.ensures, c.in_ok-f.ensures, c.in_ok-g.ensures, c.in_ok-h.ensures, c.in_err-i.ensures, refused-as c.from_residual-in_err-i.ensures.1, rules) depth 24
+returns-in_err-read_whitespace_gap-4 c = search (reads-after, reads-refused, c.in_ok-read_fixed_string.ensures, c.in_ok-read_whitespace_gap.ensures, c.in_ok-read_element.ensures, c.in_ok-read_whitespace_gap-2.ensures, c.in_ok-read_fixed_string-2.ensures, c.in_ok-read_fixed_string-3.ensures, c.in_ok-read_whitespace_gap-3.ensures, c.in_ok-read_fixed_string-4.ensures, c.in_err-read_whitespace_gap-4.ensures, refused-as c.from_residual-in_err-read_whitespace_gap-4.ensures.1, rules) depth 24
 
 pub returns : goal.returns
 unfolding array_line
-returns c = search (chain_laws, c.in_ok-a.ensures, c.in_ok-b.ensures, c.in_ok-c.ensures, c.in_ok-d.ensures, c.in_ok-e.ensures, c.in_ok-f.ensures, c.in_ok-g.ensures, c.in_ok-h.ensures, c.in_ok-i.ensures, rules) depth 24
+returns c = search (reads-after, c.in_ok-read_fixed_string.ensures, c.in_ok-read_whitespace_gap.ensures, c.in_ok-read_element.ensures, c.in_ok-read_whitespace_gap-2.ensures, c.in_ok-read_fixed_string-2.ensures, c.in_ok-read_fixed_string-3.ensures, c.in_ok-read_whitespace_gap-3.ensures, c.in_ok-read_fixed_string-4.ensures, c.in_ok-read_whitespace_gap-4.ensures, c.read_fixed_string-5.ensures, rules) depth 24

@@ -1,23 +1,21 @@
 -- What the search leaves of `read_element`.
-use Rattle.std.proofs.Common.{rules, arith, ◌≡◌}
-use Rattle.text.proofs.Reading.{fork_laws}
+use Rattle.std.proofs.Common.{rules}
 use Rattle.lines.specs.Lines.{element}
+use Rattle.lines.proofs.Laws.{look_laws}
 use Rattle.lines.proofs.read_element.Goals as goal
 
-pub returns-in-Some-eq99-default : goal.returns-in-Some-eq99-default
+pub returns-in-Some-eq99 : goal.returns-in-Some-eq99
 unfolding element
-returns-in-Some-eq99-default c = search (fork_laws, rules)
+returns-in-Some-eq99 c = search (look_laws, rules)
 
-pub returns-in-Some-eq117-default : goal.returns-in-Some-eq117-default
+pub returns-in-Some-eq117 : goal.returns-in-Some-eq117
 unfolding element
-returns-in-Some-eq117-default c =
-    let n : c.in-Some-eq117-default.field-0-0 ≡ 99 → ⊥ = λ e. omega arith in
-    search (fork_laws, n, rules)
+returns-in-Some-eq117 c = search (look_laws, rules)
 
 pub returns-in-Some : goal.returns-in-Some
 unfolding element
-returns-in-Some c = search (fork_laws, rules)
+returns-in-Some c = search (look_laws, rules)
 
 pub returns-in-None : goal.returns-in-None
 unfolding element
-returns-in-None c = search (fork_laws, rules)
+returns-in-None c = search (look_laws, rules)

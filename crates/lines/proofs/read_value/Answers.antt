@@ -1,18 +1,17 @@
 -- What the search leaves of `read_value`.
 use Rattle.std.proofs.Common.{rules}
-use Rattle.lexical.proofs.Laws.{refused-as}
-use Rattle.lines.proofs.Laws.{value_laws}
+use Rattle.lexical.proofs.Laws.{reads_laws, refused-as}
+use Rattle.symbol.proofs.Laws.{lent_laws}
 use Rattle.lines.proofs.read_value.Goals as goal
 
-pub returns-in_err-start : goal.returns-in_err-start
-returns-in_err-start c = search (value_laws, c.in_err-start.ensures, refused-as c.from_residual.ensures.1, rules)
+pub returns-in_err-read_whitespace_gap : goal.returns-in_err-read_whitespace_gap
+returns-in_err-read_whitespace_gap c = search (reads_laws, lent_laws, c.in_err-read_whitespace_gap.ensures, refused-as c.from_residual.ensures.1, rules)
 
-pub returns-in_err-n : goal.returns-in_err-n
-returns-in_err-n c = search (value_laws, c.in_ok-start.ensures, c.in_err-n.was, refused-as c.from_residual-in_err-n.ensures.1, rules)
+pub returns-in_err-digits : goal.returns-in_err-digits
+returns-in_err-digits c = search (reads_laws, lent_laws, c.in_ok-read_whitespace_gap.ensures, c.in_err-digits.ensures, refused-as c.from_residual-in_err-digits.ensures.1, rules)
 
-pub returns-in_err-next : goal.returns-in_err-next
-returns-in_err-next c =
-    search (value_laws, c.in_ok-start.ensures, c.in_ok-n.was, c.in_err-next.ensures, refused-as c.from_residual-in_err-next.ensures.1, rules)
+pub returns-in_err-read_to_newline : goal.returns-in_err-read_to_newline
+returns-in_err-read_to_newline c = search (reads_laws, lent_laws, c.in_ok-read_whitespace_gap.ensures, c.in_ok-digits.ensures, c.in_err-read_to_newline.ensures, refused-as c.from_residual-in_err-read_to_newline.ensures.1, rules)
 
 pub returns : goal.returns
-returns c = search (value_laws, c.in_ok-start.ensures, c.in_ok-n.was, c.in_ok-next.ensures, rules)
+returns c = search (reads_laws, lent_laws, c.in_ok-read_whitespace_gap.ensures, c.in_ok-digits.ensures, c.in_ok-read_to_newline.ensures, rules)

@@ -1,0 +1,12 @@
+-- What each turn of the loop in `skip_lines` keeps.
+use Rattle.std.specs.Prelude.{true, length}
+use Rattle.text.specs.Place.{rest}
+use Rattle.lexical.specs.Lexical.{number, leading}
+use Rattle.lexical.proofs.Laws.{Leads}
+use Rattle.leading.proofs.skip_lines.Given as goal
+
+abbrev pub invariant-loop-r : goal.invariant-loop-r
+invariant-loop-r l = Leads (leading (number l.part) true) l.initial.r (leading (number l.part) true) l.r
+
+abbrev pub decreases-loop-r : goal.decreases-loop-r
+decreases-loop-r l = length (rest l.r.text.now l.r.location)
