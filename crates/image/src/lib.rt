@@ -105,7 +105,7 @@ fn read_picture(
     header: XbmHeaderData,
     pixels: &mut [u8],
 ) -> Result<XbmHeaderData, ImageError>
-    ensures { Pictured header r.text.now r.location pixels.old pixels.new result }
+    ensures { Pictured header r.entry.text.now r.entry.location pixels.old pixels.new result }
 {
     read_rows(r, header.width, header.height, pixels)?;
     Ok(header)
@@ -134,7 +134,7 @@ fn read_bounded(
     cells: &mut [u8],
     limit: u64,
 ) -> Result<XbmHeaderData, LimitedError>
-    ensures { Bounded limit header r.text.now r.location cells.old cells.new result }
+    ensures { Bounded limit header r.entry.text.now r.entry.location cells.old cells.new result }
 {
     let n = cell_count(header.width, header.height);
     if n > limit {
@@ -146,6 +146,7 @@ fn read_bounded(
 
 // The pixels of a text, its header first, into the first width times height of the cells lent; above the limit on these only the header is read.
 // The arms stand here again: of a buffer that a closure borrowed nothing is known, and one function for both needs a contract longer than they are.
+#[tactic(auto, using(std::proofs::lemmas::Grind::common_steps, crate::proofs::Limit::headed_read), unfolding(crate::specs::Limited::limited, crate::specs::Limited::after_header))]
 fn read_limited(
     text: &[u8],
     name: &mut [u8],
