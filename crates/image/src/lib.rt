@@ -145,7 +145,7 @@ fn read_bounded(
 }
 
 // The pixels of a text, its header first, into the first width times height of the cells lent; above the limit on these only the header is read.
-// The arms stand here again: of a buffer that a closure borrowed nothing is known, and one function for both needs a contract longer than they are.
+// The arms stand here again: of a buffer that a closure borrowed nothing is known, and one function for both has a longer contract.
 #[tactic(auto, using(std::proofs::lemmas::Grind::common_steps, crate::proofs::Limit::headed_read), unfolding(crate::specs::Limited::limited, crate::specs::Limited::after_header))]
 fn read_limited(
     text: &[u8],
