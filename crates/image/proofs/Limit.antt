@@ -23,5 +23,5 @@ module _ (limit : ℕ) (t name name' lent later : List ℕ) {h : HeaderAnswer} (
   unfolding limited after_header reading picture ◌>>=◌ give
   headed-small l = grind (arith, common_steps)
 
-  pub headed-read : Limited limit t name lent name' later (record { image = r; name = h.name })
-  headed-read = elim (dec_lt limit (d.width * d.height)) [ yes l ↦ headed-large l | no l ↦ headed-small (omega arith) ]
+  pub headed_read : Limited limit t name lent name' later (record { image = r; name = h.name })
+  headed_read = elim (dec_lt limit (d.width * d.height)) [ yes l ↦ headed-large l | no l ↦ headed-small (omega arith) ]

@@ -16,7 +16,6 @@ use Rattle.body.specs.Data.{log_of}
 use Rattle.cells.specs.Cells.{painted, count}
 use Rattle.rows.specs.Rows.{whole}
 use Rattle.image.specs.Reading.{Reading, reading, image_refusal}
-use Rattle.image.specs.declared.ImageError.{ImageError}
 use Rattle.image.specs.declared.ImageAnswer.{ImageAnswer}
 use Rattle.image.specs.declared.LimitedError.{LimitedError}
 use Rattle.image.specs.declared.LimitedError.TheVariants.{TextTooLong, PictureTooLarge, Image}
@@ -75,11 +74,6 @@ pub record Limited (limit : ℕ) (text name cells name' cells' : List ℕ) (r : 
 pub record Within (bytes most : ℕ) (text name cells name' cells' : List ℕ) (r : ImageAnswer LimitedError) : Type 0 where
   pub all : limited_reading r name' cells' ≡ within bytes most text name cells
   pub fits : r.name ≤ length name'
-
--- a picture's answer, as one within a limit
-abbrev pub limited_of : Answer XbmHeaderData ImageError → Answer XbmHeaderData LimitedError
-limited_of (Ok d) = Ok d
-limited_of (Err e) = Err (Image e)
 
 -- reading what follows an accepted header d, from place p on: nothing above the limit, else the picture into the first n cells
 pub record Bounded (limit : ℕ) (d : XbmHeaderData) (t : List ℕ) (p : TextLocation) (lent later : List ℕ) (r : Answer XbmHeaderData LimitedError) : Type 0 where

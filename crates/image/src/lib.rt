@@ -11,7 +11,7 @@ use error::{Refusal, XbmDecodeError};
 use header::{XbmHeaderData, read_xbm_header};
 use ink::{at_most, cell_count};
 use rows::{RowsError, read_rows};
-use text::TextLocation;
+use text::TextReader;
 
 // A refusal of the decoder, or a pixel buffer whose rows are not the picture's.
 #[derive(Clone, Copy, Debug, PartialEq, Eq)]
@@ -101,24 +101,24 @@ pub struct ImageAnswer<E> {
 
 // The rows of an accepted header, as the picture's answer.
 fn read_picture(
-    text: &[u8],
-    place: TextLocation,
+    r: TextReader<'_>,
     header: XbmHeaderData,
     pixels: &mut [u8],
 ) -> Result<XbmHeaderData, ImageError>
-    ensures { Pictured header text.now place pixels.old pixels.new result }
+    ensures { Pictured header r.entry.text.now r.entry.location pixels.old pixels.new result }
 {
-    read_rows(text, place, header.width, header.height, pixels)?;
+    read_rows(r, header.width, header.height, pixels)?;
     Ok(header)
 }
 
-// The pixels of a text, its header first: as `XbmDecoder::new` and then `read_image`.
+// The pixels of a text, its header first: as `XbmDecoder::new` and then `read_image`. Here and below name and cells stay two parameters:
+// they are buffers of two owners, lent apart, and a struct of both would be made anew in each call.
 pub fn read_image(text: &[u8], name: &mut [u8], pixels: &mut [u8]) -> ImageAnswer<ImageError>
     ensures { Imaged text.now name.old pixels.old name.new pixels.new result }
 {
     let read = read_xbm_header(text, name);
     let image = match read.header {
-        Ok((header, place)) => read_picture(text, place, header, pixels),
+        Ok((header, location)) => read_picture(TextReader { text, location }, header, pixels),
         Err(e) => Err(e.into()),
     };
     ImageAnswer {
@@ -129,23 +129,24 @@ pub fn read_image(text: &[u8], name: &mut [u8], pixels: &mut [u8]) -> ImageAnswe
 
 // The rows of an accepted header into the first width times height cells, if these are not above the limit.
 fn read_bounded(
-    text: &[u8],
-    place: TextLocation,
+    r: TextReader<'_>,
     header: XbmHeaderData,
     cells: &mut [u8],
     limit: u64,
 ) -> Result<XbmHeaderData, LimitedError>
-    ensures { Bounded limit header text.now place cells.old cells.new result }
+    ensures { Bounded limit header r.entry.text.now r.entry.location cells.old cells.new result }
 {
     let n = cell_count(header.width, header.height);
     if n > limit {
         return Err(LimitedError::PictureTooLarge);
     }
     let size = at_most(n, cells.len());
-    Ok(read_picture(text, place, header, &mut cells[..size])?)
+    Ok(read_picture(r, header, &mut cells[..size])?)
 }
 
 // The pixels of a text, its header first, into the first width times height of the cells lent; above the limit on these only the header is read.
+// The arms stand here again: of a buffer that a closure borrowed nothing is known, and one function for both has a longer contract.
+#[tactic(auto, using(std::proofs::lemmas::Grind::common_steps, crate::proofs::Limit::headed_read), unfolding(crate::specs::Limited::limited, crate::specs::Limited::after_header))]
 fn read_limited(
     text: &[u8],
     name: &mut [u8],
@@ -156,7 +157,7 @@ fn read_limited(
 {
     let read = read_xbm_header(text, name);
     let image = match read.header {
-        Ok((header, place)) => read_bounded(text, place, header, cells, limit),
+        Ok((header, location)) => read_bounded(TextReader { text, location }, header, cells, limit),
         Err(e) => Err(LimitedError::Image(e.into())),
     };
     ImageAnswer {

@@ -10,16 +10,17 @@ use lib.Dec.{eqb, ltb}
 use borrow.Author.Tests.{eq-eqb, ne_eqb, lt-ltb, le-ltb}
 use Rattle.std.specs.Int.{div_ceil}
 use Rattle.std.specs.Option.{SomeIff, unwrap_or}
-use Rattle.std.specs.Prelude.{Option as Answered, Some, None, Result as Answer, Ok, Err, IsErrAnd}
-use Rattle.std.proofs.lemmas.Result.{err_from_is_err_and}
+use Rattle.std.specs.Prelude.{Option as Answered, Some, None, Result as Answer, Ok, Err}
 use Rattle.text.specs.declared.TextLocation.{TextLocation}
+use Rattle.text.specs.declared.TextReader.{TextReader}
 use Rattle.text.specs.Rest.{Sound}
 use Rattle.text.proofs.PlaceLaws.{reach-sound}
 use Rattle.text.specs.Reader.{Result, ok, stop, bad, Reader, ◌>>=◌, then}
 use Rattle.text.specs.Outcome.{outcome}
 use Rattle.text.specs.Leaf.{give, need}
 use Rattle.lexical.specs.declared.ParseError.{ParseError}
-use Rattle.lexical.specs.Lexical.{number, told, told_byte}
+use Rattle.lexical.specs.Lexical.{number}
+use Rattle.lexical.specs.Reads.{told, Reads}
 use Rattle.body.specs.Data.{Log, item, items, trailer, log_of, row_bytes}
 use Rattle.body.proofs.Data.{item-local, item-grows}
 use Rattle.rows.specs.declared.RowsError.{RowsError}
@@ -102,46 +103,52 @@ wide y n (suc w) l = omega arith
 
 -- ---- what holds where k data bytes are read
 
-pub record Going (w h : ℕ) (t : List ℕ) (i₀ : TextLocation) (lent p : List ℕ) (i : TextLocation) (f : Bool) (k : ℕ) : Type 0 where
+pub record Going (w h : ℕ) (t : List ℕ) (i₀ : TextLocation) (lent p : List ℕ) (r : TextReader) (f : Bool) (k : ℕ) : Type 0 where
+  pub kept : r.text.now ≡ t
   pub done : Log
   pub size : length p ≡ length lent
   pub long : length done ≡ k
   pub within : k ≤ count w h (length lent)
   pub cells : (c : ℕ) → get_or p c 0 ≡ cell w done c (get_or lent c 0)
-  pub log : log_of (count w h (length lent)) true t i₀ ≡ done ++ log_of (count w h (length lent) - k) f t i
+  pub log : log_of (count w h (length lent)) true t i₀ ≡ done ++ log_of (count w h (length lent) - k) f t r.location
   pub fresh : f ≡ eqb k 0
-  pub sound : f ≡ false → Sound i
-  pub left : (items (count w h (length lent) - k) f >>= λ l. after_rows w h (length lent) (values done ++ l)) t i ≡ whole w h (length lent) t i₀
+  pub sound : f ≡ false → Sound r.location
+  pub left : (items (count w h (length lent) - k) f >>= λ l. after_rows w h (length lent) (values done ++ l)) t r.location ≡ whole w h (length lent) t i₀
 
 module _ (w h : ℕ) (t : List ℕ) (i₀ : TextLocation) (lent : List ℕ) where
-  pub going_start : (k : ℕ) → k ≡ 0 → Going w h t i₀ lent lent i₀ true k
+  pub going_start : (r : TextReader) (k : ℕ) → r.text.now ≡ t → r.location ≡ i₀ → k ≡ 0 → Going w h t i₀ lent lent r true k
   unfolding whole cell
-  going_start k e =
+  going_start r k a b e =
       let z : count w h (length lent) - k ≡ count w h (length lent) = omega arith in
       record {
+        kept = a;
         done = [];
         size = refl;
         long = sym e;
         within = omega arith;
         cells = λ c. refl;
-        log = rw z;
+        log = rw (z, b);
         fresh = rw e;
         sound = λ z. absurd (true≢false z);
-        left = rw z;
+        left = rw (z, b);
       }
 
-  module _ (p : List ℕ) (i : TextLocation) (f : Bool) (k : ℕ) (g : Going w h t i₀ lent p i f k) where
+  module _ (p : List ℕ) (r : TextReader) (f : Bool) (k : ℕ) (g : Going w h t i₀ lent p r f k) where
     -- past the first data byte the place is sound
-    pub going-sound : f ≡ false → Sound i
+    pub going-sound : f ≡ false → Sound r.location
     going-sound = g.sound
 
     -- the same number in other words
-    pub going_as : {n : ℕ} → n ≡ k → Going w h t i₀ lent p i f n
+    pub going_as : {n : ℕ} → n ≡ k → Going w h t i₀ lent p r f n
     going_as e = rw e g
 
-    filled : (r : Answer (Unit {0}) RowsError) (l : Log) → log_of (count w h (length lent)) true t i₀ ≡ l → l ≡ g.done → told_rows r ≡ outcome (λ l. tt) (whole w h (length lent) t i₀)
-        → Filled w h t i₀ lent p r
-    filled r l a b e = record { answer = e; stored = rw (a, b) (painted-all w g.done p lent g.size g.cells) }
+    filled : (z : Answer (Unit {0}) RowsError) (l : Log) → log_of (count w h (length lent)) true t i₀ ≡ l → l ≡ g.done → told_rows z ≡ outcome (λ l. tt) (whole w h (length lent) t i₀)
+        → Filled w h t i₀ lent p z
+    filled z l a b e = record { answer = e; stored = rw (a, b) (painted-all w g.done p lent g.size g.cells) }
+
+    -- what a reader off r gives of the text
+    off : {A : Type 0} {q : Reader A} {r' : TextReader} {m : Answer A ParseError} → Reads q r r' m → told m r'.location ≡ q t r.location
+    off {q = q} e = e.answer ∙ ap (λ t. q t r.location) g.kept
 
     -- ---- a data byte that the whole rows have
 
@@ -150,35 +157,36 @@ module _ (w h : ℕ) (t : List ℕ) (i₀ : TextLocation) (lent : List ℕ) wher
       one_less = omega arith
 
       -- it is not there
-      pub going-wrong : {r : Answer (ℕ × TextLocation) ParseError} {x : ParseError} {z : Answer (Unit {0}) RowsError} → told_byte r ≡ item f t i → r ≡ Err x → z ≡ Err (Parse x) → Filled w h t i₀ lent p z
-      going-wrong {r} {x} e m u =
-          let o : stop (number x.part) x.place ≡ item f t i = rw m at e in
+      pub going-wrong : {r' : TextReader} {m : Answer ℕ ParseError} {x : ParseError} {z : Answer (Unit {0}) RowsError} → Reads (item f) r r' m → m ≡ Err x → z ≡ Err (Parse x) → Filled w h t i₀ lent p z
+      going-wrong {x = x} e y u =
+          let o : stop (number x.part) x.place ≡ item f t r.location = rw y at (off e) in
           rw u
-          (filled (Err (Parse x)) (g.done ++ []) (rw (log-stop f t i (count w h (length lent) - k) o) at g.log) (append-nil g.done)
-          (ap (outcome (λ l. tt)) (sym (rest-stop f t i (after_rows w h (length lent)) (values g.done) (count w h (length lent) - suc k) o) ∙ (rw one_less at g.left))))
+          (filled (Err (Parse x)) (g.done ++ []) (rw (log-stop f t r.location (count w h (length lent) - k) o) at g.log) (append-nil g.done)
+          (ap (outcome (λ l. tt)) (sym (rest-stop f t r.location (after_rows w h (length lent)) (values g.done) (count w h (length lent) - suc k) o) ∙ (rw one_less at g.left))))
 
       -- it is read, and its n cells from s on are stored
-      module _ {r : Answer (ℕ × TextLocation) ParseError} {v : ℕ} {q : TextLocation} (e : told_byte r ≡ item f t i) (m : r ≡ Ok (v, q)) where
-        got : ok v q ≡ item f t i
-        got = rw m at e
+      module _ {r' : TextReader} {m : Answer ℕ ParseError} {v : ℕ} (e : Reads (item f) r r' m) (y : m ≡ Ok v) where
+        got : ok v r'.location ≡ item f t r.location
+        got = rw y at (off e)
 
         further : Log
-        further = g.done ++ (v, q) ∷ []
+        further = g.done ++ (v, r'.location) ∷ []
 
-        step : (y j s n : ℕ) → k ≡ y * row_bytes w + j → 0 < w → j < row_bytes w → s ≡ y * w + 8 * j → n ≡ min 8 (w - 8 * j) → s + n ≤ length p → Going w h t i₀ lent (dab s v n p) q false (suc k)
+        step : (y j s n : ℕ) → k ≡ y * row_bytes w + j → 0 < w → j < row_bytes w → s ≡ y * w + 8 * j → n ≡ min 8 (w - 8 * j) → s + n ≤ length p → Going w h t i₀ lent (dab s v n p) r' false (suc k)
         unfolding further
         step y j s n hk' hw hj hs hn hp =
-            let d : length further ≡ suc k = length_more g.done (v, q) ∙ ap suc g.long in
+            let d : length further ≡ suc k = length_more g.done (v, r'.location) ∙ ap suc g.long in
             record {
+              kept = ap (λ s. s.now) e.kept ∙ g.kept;
               done = further;
               size = length-dab s v n p ∙ g.size;
               long = d;
               within = hk;
-              cells = paint-step w hw y j hj s n hs hn lent p g.done v q (g.long ∙ hk') hp g.cells;
-              log = rw (one_less, log-more f t i (count w h (length lent) - suc k) got) at g.log ∙ sym (append_assoc g.done ((v, q) ∷ []) (log_of (count w h (length lent) - suc k) false t q));
+              cells = paint-step w hw y j hj s n hs hn lent p g.done v r'.location (g.long ∙ hk') hp g.cells;
+              log = rw (one_less, log-more f t r.location (count w h (length lent) - suc k) got) at g.log ∙ sym (append_assoc g.done ((v, r'.location) ∷ []) (log_of (count w h (length lent) - suc k) false t r'.location));
               fresh = sym (ne_eqb (suc k) 0 (λ z. omega arith));
-              sound = λ z. item-sound f t i got;
-              left = rw (values-more g.done v q) (sym (rest_more f t i (after_rows w h (length lent)) (values g.done) (count w h (length lent) - suc k) got) ∙ (rw one_less at g.left));
+              sound = λ z. item-sound f t r.location got;
+              left = rw (values-more g.done v r'.location) (sym (rest_more f t r.location (after_rows w h (length lent)) (values g.done) (count w h (length lent) - suc k) got) ∙ (rw one_less at g.left));
             }
 
     -- ---- the end of all whole rows
@@ -191,15 +199,15 @@ module _ (w h : ℕ) (t : List ℕ) (i₀ : TextLocation) (lent : List ℕ) wher
       told-first : eqb (count w h (length lent)) 0 ≡ f
       told-first = ap (λ (n : ℕ). eqb n 0) (sym e) ∙ sym g.fresh
 
-      ended : (r : Answer (Unit {0}) RowsError) → told_rows r ≡ outcome (λ l. tt) (after_rows w h (length lent) (values g.done) t i) → Filled w h t i₀ lent p r
-      ended r b =
-          filled r g.done
-          (rw over at g.log ∙ log-none f t i g.done)
+      ended : (z : Answer (Unit {0}) RowsError) → told_rows z ≡ outcome (λ l. tt) (after_rows w h (length lent) (values g.done) t r.location) → Filled w h t i₀ lent p z
+      ended z b =
+          filled z g.done
+          (rw over at g.log ∙ log-none f t r.location g.done)
           refl
-          (b ∙ ap (outcome (λ l. tt)) (sym (rest-none f t i (after_rows w h (length lent)) (values g.done)) ∙ (rw over at g.left)))
+          (b ∙ ap (outcome (λ l. tt)) (sym (rest-none f t r.location (after_rows w h (length lent)) (values g.done)) ∙ (rw over at g.left)))
 
 -- byte j of row y of the rows that are read, of which each has a bytes
-module _ (w h : ℕ) (t : List ℕ) (i₀ : TextLocation) (lent p : List ℕ) (i : TextLocation) (f : Bool) {rows a b : ℕ} (y j : ℕ) (g : Going w h t i₀ lent p i f (y * a + j))
+module _ (w h : ℕ) (t : List ℕ) (i₀ : TextLocation) (lent p : List ℕ) (r : TextReader) (f : Bool) {rows a b : ℕ} (y j : ℕ) (g : Going w h t i₀ lent p r f (y * a + j))
     (hr : rows ≡ length lent / w) (ha : a ≡ div_ceil w 8) (hb : b ≡ min rows h) (hy : y < b) (hj : j < a) where
   bytes : a ≡ row_bytes w
   bytes = omega (arith, ha)
@@ -227,30 +235,30 @@ module _ (w h : ℕ) (t : List ℕ) (i₀ : TextLocation) (lent p : List ℕ) (i
       let l : suc y ≤ min (length lent / w) h = omega arith in
       omega (arith, mul-le-mul_right (row_bytes w) l, suc-mul y (row_bytes w), count-is w h (length lent), ap (λ (n : ℕ). y * n) bytes, bytes)
 
-  pub going-refused : {r : Answer (ℕ × TextLocation) ParseError} {x : ParseError} {z : Answer (Unit {0}) RowsError} → told_byte r ≡ item f t i → r ≡ Err x → z ≡ Err (Parse x) → Filled w h t i₀ lent p z
-  going-refused = going-wrong w h t i₀ lent p i f (y * a + j) g more
+  pub going-refused : {r' : TextReader} {m : Answer ℕ ParseError} {x : ParseError} {z : Answer (Unit {0}) RowsError} → Reads (item f) r r' m → m ≡ Err x → z ≡ Err (Parse x) → Filled w h t i₀ lent p z
+  going-refused = going-wrong w h t i₀ lent p r f (y * a + j) g more
 
-  module _ {r : Answer (ℕ × TextLocation) ParseError} {v : ℕ} {q : TextLocation} (e : told_byte r ≡ item f t i) (m : r ≡ Ok (v, q)) where
-    next : (s n : ℕ) → s ≡ y * w + 8 * j → n ≡ min 8 (w - 8 * j) → Going w h t i₀ lent (dab s v n p) q false (suc (y * a + j))
+  module _ {r' : TextReader} {m : Answer ℕ ParseError} {v : ℕ} (e : Reads (item f) r r' m) (o : m ≡ Ok v) where
+    next : (s n : ℕ) → s ≡ y * w + 8 * j → n ≡ min 8 (w - 8 * j) → Going w h t i₀ lent (dab s v n p) r' false (suc (y * a + j))
     next s n hs hn =
-        step w h t i₀ lent p i f (y * a + j) g more e m y j s n (ap (λ (n : ℕ). y * n + j) bytes) some (omega (arith, bytes)) hs hn (omega (arith, room, in_row))
+        step w h t i₀ lent p r f (y * a + j) g more e o y j s n (ap (λ (n : ℕ). y * n + j) bytes) some (omega (arith, bytes)) hs hn (omega (arith, room, in_row))
 
     -- more of the row is left after it
     pub going_more : {c : List ℕ} → 8 < w - 8 * j → c ≡ unpacked v (take (y * w + 8 * j + 8 - (y * w + 8 * j)) (drop (y * w + 8 * j) p))
-        → Going w h t i₀ lent (take (y * w + 8 * j) p ++ (c ++ drop (y * w + 8 * j + 8 - (y * w + 8 * j)) (drop (y * w + 8 * j) p))) q false (y * a + (j + 1))
+        → Going w h t i₀ lent (take (y * w + 8 * j) p ++ (c ++ drop (y * w + 8 * j + 8 - (y * w + 8 * j)) (drop (y * w + 8 * j) p))) r' false (y * a + (j + 1))
     going_more l c =
         rw (c, dab-part (y * w + 8 * j) v 8 (y * w + 8 * j + 8) p refl (omega (arith, room)))
-        (going_as w h t i₀ lent _ q false _ (next (y * w + 8 * j) 8 refl (omega arith)) (omega arith))
+        (going_as w h t i₀ lent _ r' false _ (next (y * w + 8 * j) 8 refl (omega arith)) (omega arith))
 
     -- it ends the row
     pub going_next : {c : List ℕ} → w - 8 * j ≤ 8 → c ≡ unpacked v (take (y * w + 8 * j + (w - 8 * j) - (y * w + 8 * j)) (drop (y * w + 8 * j) p))
-        → Going w h t i₀ lent (take (y * w + 8 * j) p ++ (c ++ drop (y * w + 8 * j + (w - 8 * j) - (y * w + 8 * j)) (drop (y * w + 8 * j) p))) q false (y * a + (j + 1))
+        → Going w h t i₀ lent (take (y * w + 8 * j) p ++ (c ++ drop (y * w + 8 * j + (w - 8 * j) - (y * w + 8 * j)) (drop (y * w + 8 * j) p))) r' false (y * a + (j + 1))
     going_next l c =
         rw (c, dab-part (y * w + 8 * j) v (w - 8 * j) (y * w + 8 * j + (w - 8 * j)) p refl (omega (arith, room, in_row)))
-        (going_as w h t i₀ lent _ q false _ (next (y * w + 8 * j) (w - 8 * j) refl (omega arith)) (omega arith))
+        (going_as w h t i₀ lent _ r' false _ (next (y * w + 8 * j) (w - 8 * j) refl (omega arith)) (omega arith))
 
 -- all rows that the buffer has whole, as far as the picture goes
-module _ (w h : ℕ) (t : List ℕ) (i₀ : TextLocation) (lent p : List ℕ) (i : TextLocation) (f : Bool) {rows a b : ℕ} (y : ℕ) (g : Going w h t i₀ lent p i f (y * a))
+module _ (w h : ℕ) (t : List ℕ) (i₀ : TextLocation) (lent p : List ℕ) (r : TextReader) (f : Bool) {rows a b : ℕ} (y : ℕ) (g : Going w h t i₀ lent p r f (y * a))
     (hr : rows ≡ length lent / w) (ha : a ≡ div_ceil w 8) (hb : b ≡ min rows h) (hy : b ≤ y) (hl : y ≤ b) where
   all_read : y * a ≡ count w h (length lent)
   all_read =
@@ -258,53 +266,49 @@ module _ (w h : ℕ) (t : List ℕ) (i₀ : TextLocation) (lent p : List ℕ) (i
       let u : a ≡ row_bytes w = omega (arith, ha) in
       rw (z, u) (sym (count-is w h (length lent)))
 
-  close : (r : Answer (Unit {0}) RowsError) → told_rows r ≡ outcome (λ l. tt) (after_rows w h (length lent) (values g.done) t i) → Filled w h t i₀ lent p r
-  close = ended w h t i₀ lent p i f (y * a) g all_read
+  close : (z : Answer (Unit {0}) RowsError) → told_rows z ≡ outcome (λ l. tt) (after_rows w h (length lent) (values g.done) t r.location) → Filled w h t i₀ lent p z
+  close = ended w h t i₀ lent p r f (y * a) g all_read
 
   -- too few, and the next data byte is read
-  module _ (lt : rows < h) {r : Answer (ℕ × TextLocation) ParseError} (e : told_byte r ≡ item f t i) where
-    pub going-few : {v : ℕ × TextLocation} → r ≡ Ok v → Filled w h t i₀ lent p (Err DimensionMismatch)
+  module _ (lt : rows < h) {r' : TextReader} {m : Answer ℕ ParseError} (e : Reads (item f) r r' m) where
+    pub going-few : {v : ℕ} → m ≡ Ok v → Filled w h t i₀ lent p (Err DimensionMismatch)
     unfolding ◌>>=◌ need
-    going-few {v} m =
-        let o : ok v.0 v.1 ≡ item f t i = rw m at e in
+    going-few {v} n =
+        let o : ok v r'.location ≡ item f t r.location = rw n at (off w h t i₀ lent p r f (y * a) g e) in
         close (Err DimensionMismatch)
-        (rw (ne_eqb (length lent / w) h (λ z. omega arith), lt-ltb (length lent / w) h (omega arith), told-first w h t i₀ lent p i f (y * a) g all_read, ← o))
+        (rw (ne_eqb (length lent / w) h (λ z. omega arith), lt-ltb (length lent / w) h (omega arith), told-first w h t i₀ lent p r f (y * a) g all_read, ← o))
 
-    pub going-few-wrong : {x : ParseError} {z : Answer (Unit {0}) RowsError} → r ≡ Err x → z ≡ Err (Parse x) → Filled w h t i₀ lent p z
+    pub going-few-wrong : {x : ParseError} {z : Answer (Unit {0}) RowsError} → m ≡ Err x → z ≡ Err (Parse x) → Filled w h t i₀ lent p z
     unfolding ◌>>=◌
-    going-few-wrong {x} m u =
-        let o : stop (number x.part) x.place ≡ item f t i = rw m at e in
+    going-few-wrong {x} n u =
+        let o : stop (number x.part) x.place ≡ item f t r.location = rw n at (off w h t i₀ lent p r f (y * a) g e) in
         rw u
         (close (Err (Parse x))
-        (rw (ne_eqb (length lent / w) h (λ z. omega arith), lt-ltb (length lent / w) h (omega arith), told-first w h t i₀ lent p i f (y * a) g all_read, ← o)))
+        (rw (ne_eqb (length lent / w) h (λ z. omega arith), lt-ltb (length lent / w) h (omega arith), told-first w h t i₀ lent p r f (y * a) g all_read, ← o)))
 
   -- as many or more, and the trailer is read
-  module _ (le : h ≤ rows) {m : Answer TextLocation ParseError} (e : told m ≡ trailer t i) where
-    pub going_done : {q : TextLocation} → m ≡ Ok q → rows ≡ h → Filled w h t i₀ lent p (Ok tt)
+  module _ (le : h ≤ rows) {r' : TextReader} {m : Answer (Unit {0}) ParseError} (e : Reads trailer r r' m) where
+    pub going_done : m ≡ Ok tt → rows ≡ h → Filled w h t i₀ lent p (Ok tt)
     unfolding ◌>>=◌ give
-    going_done {q} k n =
-        let o : ok tt q ≡ trailer t i = rw k at e in
+    going_done k n =
+        let o : ok tt r'.location ≡ trailer t r.location = rw k at (off w h t i₀ lent p r f (y * a) g e) in
         close (Ok tt) (rw (eq-eqb (length lent / w) h (sym hr ∙ n), ← o))
 
-    pub going-many : {q : TextLocation} → m ≡ Ok q → (rows ≡ h → ⊥) → Filled w h t i₀ lent p (Err DimensionMismatch)
+    pub going-many : m ≡ Ok tt → (rows ≡ h → ⊥) → Filled w h t i₀ lent p (Err DimensionMismatch)
     unfolding ◌>>=◌ need
-    going-many {q} k n =
-        let o : ok tt q ≡ trailer t i = rw k at e in
+    going-many k n =
+        let o : ok tt r'.location ≡ trailer t r.location = rw k at (off w h t i₀ lent p r f (y * a) g e) in
         close (Err DimensionMismatch) (rw (ne_eqb (length lent / w) h (λ z. n (hr ∙ z)), le-ltb (length lent / w) h (omega arith), ← o))
 
     pub going-bad : {x : ParseError} {z : Answer (Unit {0}) RowsError} → m ≡ Err x → z ≡ Err (Parse x) → Filled w h t i₀ lent p z
     unfolding ◌>>=◌
     going-bad {x} k v = rw v (go (eqb (length lent / w) h) refl)
       where
-        o : stop (number x.part) x.place ≡ trailer t i
-        o = rw k at e
+        o : stop (number x.part) x.place ≡ trailer t r.location
+        o = rw k at (off w h t i₀ lent p r f (y * a) g e)
 
         go : (b : Bool) → eqb (length lent / w) h ≡ b → Filled w h t i₀ lent p (Err (Parse x))
         go true u = close (Err (Parse x)) (rw (u, ← o))
         go false u = close (Err (Parse x)) (rw (u, le-ltb (length lent / w) h (omega arith), ← o))
-
--- what the exit of a `?` hands back
-pub ends-as : {r : Answer (Unit {0}) RowsError} {x : RowsError} → IsErrAnd r (λ e. e ≡ x) → r ≡ Err x
-ends-as {r} h = let p = err_from_is_err_and r h in p.1 ∙ ap (λ e. Err e) p.2
 
 pub ruleset going_laws = (rows-are, going_start, going-sound, going_as, rest-inside, eight-inside, going_more, going_next, going-refused, going-few, going-few-wrong, going_done, going-many, going-bad)

@@ -11,33 +11,25 @@ use lib.ListN.{length, drop, get_or}
 use native.Mathlib.Numerals.{add-one}
 use lib.Seq.{drop-cons}
 use lib.Dec.{eqb, ltb}
-use Rattle.std.specs.Prelude.{Option as Answered, Some, None, Result as Answer, Err}
+use Rattle.std.specs.Prelude.{Option as Answered, Some, None}
 use Rattle.std.specs.Int.{from_le_bytes}
 use Rattle.text.specs.declared.TextLocation.{TextLocation}
-use Rattle.text.specs.Place.{pick, byte_of, reaches_to, along_line, rest, after, past}
+use Rattle.text.specs.declared.TextReader.{TextReader}
+use Rattle.text.specs.Place.{pick, byte_of, along_line, rest, after, past}
+use Rattle.text.specs.TextReader.{reaching, passed_along}
 use Rattle.text.specs.Rest.{Sound}
 use Rattle.text.proofs.Rest.{after-rest}
 use Rattle.text.proofs.PlaceLaws.{sound-rest, along-past}
-use Rattle.text.specs.Reader.{Result, ok, ◌>>=◌}
+use Rattle.text.specs.Reader.{ok, Reader, ◌>>=◌}
 use Rattle.text.specs.Leaf.{one, run, give}
-use Rattle.lexical.specs.Lexical.{is_loose, is_blank, skip, byte, is, fixed, told_byte}
-use Rattle.lexical.specs.declared.ParseError.{ParseError}
+use Rattle.lexical.specs.Lexical.{is_loose, is_blank, skip, byte, is, fixed}
 use Rattle.hexadecimal.specs.Hex.{hex_of, value_of, hexv, hex_digit, hex_start, hex_digits, hex_unit, is_mark}
 use Rattle.body.specs.Data.{item}
-use Rattle.hexadecimal.proofs.Hex.{told-got}
+use Rattle.hexadecimal.proofs.Hex.{hex-there}
 use Rattle.rows.specs.Quick.{Meets}
 
-pub miss : {r : Answered (ℕ × TextLocation)} (d : Result ℕ) → r ≡ None → Meets r d
-miss d h = record { hit = λ v q e. cc }
-
-pub meets : {d : Result ℕ} {r : Answered (ℕ × TextLocation)} {v : ℕ} {q : TextLocation} → Meets r d → r ≡ Some (v, q) → ok v q ≡ d
-meets {v = v} {q = q} k e = k.hit v q e
-
--- a plain refusal handed on
-pub again-refused : {d : Result ℕ} {m r : Answer (ℕ × TextLocation) ParseError} {x : ParseError} → told_byte m ≡ d → m ≡ Err x → r ≡ Err x → told_byte r ≡ d
-again-refused e h k = rw k (rw h at e)
-
-pub ruleset next_laws = (meets, told-got, again-refused)
+pub missed : (p : Reader ℕ) {r₀ r₁ : TextReader} {m : Answered ℕ} → m ≡ None → r₁ ≡ r₀ → Meets p r₀ r₁ m
+missed p e k = record { kept = ap (λ r. r.text) k; hit = λ v h. cc; miss = λ h. k }
 
 -- a digit by the table
 pub digit-there : (b : ℕ) {v : ℕ} → v ≡ hex_of b → v < 16 → Some v ≡ value_of b
@@ -45,6 +37,8 @@ digit-there b {v} e h = rw (← e, lt-ltb v 16 h)
 
 pub digit-none : (b : ℕ) {v : ℕ} → v ≡ hex_of b → 16 ≤ v → None ≡ value_of b
 digit-none b {v} e h = rw (← e, le-ltb v 16 h)
+
+pub ruleset table_laws = (digit-there, digit-none, hex-there)
 
 -- what a digit is
 digit-is : (b : ℕ) {v : ℕ} → Some v ≡ value_of b → (v ≡ hex_of b) × (hex_of b < 16)
@@ -54,8 +48,8 @@ digit-is b {v} = go (ltb (hex_of b) 16) refl
     go true u e = (cc, ltb-true (hex_of b) 16 u)
     go false u e = cc
 
-some-pair : {x y : ℕ × TextLocation} → ◌≡◌ {A = Answered (ℕ × TextLocation)} (Some x) (Some y) → x ≡ y
-some-pair e = cc
+same-value : {x y : ℕ} → ◌≡◌ {A = Answered ℕ} (Some x) (Some y) → x ≡ y
+same-value e = cc
 
 -- four bytes as one number, the first the lowest
 mark-is : (a b c d : ℕ) → a < 256 → b < 256 → c < 256 → d < 256 → from_le_bytes w32 (a ∷ b ∷ c ∷ d ∷ []) ≡ 2016419884 → (a ≡ 44) × (b ≡ 32) × (c ≡ 48) × (d ≡ 120)
@@ -120,9 +114,15 @@ module _ (t : List ℕ) (p : TextLocation) where
 drop_at : (s : List ℕ) (n m : ℕ) → m ≡ n + 1 → n < length s → drop n s ≡ get_or s n 0 ∷ drop m s
 drop_at s n m e h = rw (e, add-one, drop-cons s n 0 h)
 
-module _ (t : List ℕ) (p : TextLocation) {r : Bool} (e : r ≡ reaches_to t p 6) (g : not r ≡ false) where
+module _ (r₀ : TextReader) {z : Bool} (e : z ≡ reaching 6 r₀) (g : not z ≡ false) where
+  abbrev t : List ℕ
+  t = r₀.text.now
+
+  abbrev p : TextLocation
+  p = r₀.location
+
   inside : byte_of p + 6 ≤ length t
-  inside = leb-true _ _ (sym e ∙ not-false r g)
+  inside = leb-true _ _ (sym e ∙ not-false z g)
 
   rest-six : Sound p → rest t p ≡ get_or t (byte_of p) 0 ∷ get_or t (byte_of p + 1) 0 ∷ get_or t (byte_of p + 2) 0 ∷ get_or t (byte_of p + 3) 0 ∷ get_or t (byte_of p + 4) 0
       ∷ get_or t (byte_of p + 5) 0 ∷ drop (byte_of p + 6) t
@@ -146,18 +146,22 @@ module _ (t : List ℕ) (p : TextLocation) {r : Bool} (e : r ≡ reaches_to t p 
   six-fits k l m = record { fits = omega (arith, inside) }
 
   -- the four bytes before the digits are `, 0x`
-  pub quick-hit : {f : Bool} {r hi lo : ℕ} {q : TextLocation} {ah al : Answered ℕ} → (f ≡ false → Sound p) → f ≡ false → length t * 1 < 2 ^ 63 → ((k : ℕ) → Fits w8 (get_or t k 0))
-      → r ≡ from_le_bytes w32 (get_or t (byte_of p) 0 ∷ get_or t (byte_of p + 1) 0 ∷ get_or t (byte_of p + 2) 0 ∷ get_or t (byte_of p + 3) 0 ∷ []) → r ≡ 2016419884
-      → ah ≡ value_of (get_or t (byte_of p + 4) 0) → ah ≡ Some hi → al ≡ value_of (get_or t (byte_of p + 5) 0) → al ≡ Some lo → q ≡ along_line p 6
-      → Meets (Some (hi * 16 + lo, q)) (item f t p)
-  quick-hit {f} {r} {hi} {lo} {q} sound hf room bytes four same eh hh el hl to =
+  pub quick-hit : {x hi lo : ℕ} {r₁ : TextReader} {ah al : Answered ℕ} → Sound p → length t * 1 < 2 ^ 63 → ((k : ℕ) → Fits w8 (get_or t k 0))
+      → x ≡ from_le_bytes w32 (get_or t (byte_of p) 0 ∷ get_or t (byte_of p + 1) 0 ∷ get_or t (byte_of p + 2) 0 ∷ get_or t (byte_of p + 3) 0 ∷ []) → x ≡ 2016419884
+      → ah ≡ value_of (get_or t (byte_of p + 4) 0) → ah ≡ Some hi → al ≡ value_of (get_or t (byte_of p + 5) 0) → al ≡ Some lo → r₁ ≡ passed_along 6 r₀
+      → Meets (item false) r₀ r₁ (Some (hi * 16 + lo))
+  quick-hit {hi = hi} {lo} sound room bytes four same eh hh el hl to =
       let i : byte_of p + 6 ≤ length t = inside in
       let (c0, c1, c2, c3) = mark-is (get_or t (byte_of p) 0) (get_or t (byte_of p + 1) 0) (get_or t (byte_of p + 2) 0) (get_or t (byte_of p + 3) 0) (bytes _).fits (bytes _).fits (bytes _).fits (bytes _).fits (sym four ∙ same) in
       let (vh, u) = digit-is (get_or t (byte_of p + 4) 0) (sym hh ∙ eh) in
       let (vl, w) = digit-is (get_or t (byte_of p + 5) 0) (sym hl ∙ el) in
-      let d : ok (hi * 16 + lo) q ≡ item f t p
-      = rw (hf, vh, vl, to, six t p (get_or t (byte_of p + 4) 0) (get_or t (byte_of p + 5) 0) u w (sound hf) (omega arith))
-      (sym (six-read t p (get_or t (byte_of p + 4) 0) (get_or t (byte_of p + 5) 0) (drop (byte_of p + 6) t) (rw (← c0, ← c1, ← c2, ← c3) (rest-six (sound hf))) u w)) in
-      record { hit = λ v p' y. ap (λ (x : ℕ × TextLocation). ok x.0 x.1) (sym (some-pair y)) ∙ d }
+      let d : ok (hi * 16 + lo) (along_line p 6) ≡ item false t p
+      = rw (vh, vl, six t p (get_or t (byte_of p + 4) 0) (get_or t (byte_of p + 5) 0) u w sound (omega arith))
+      (sym (six-read t p (get_or t (byte_of p + 4) 0) (get_or t (byte_of p + 5) 0) (drop (byte_of p + 6) t) (rw (← c0, ← c1, ← c2, ← c3) (rest-six sound)) u w)) in
+      record {
+        kept = ap (λ r. r.text) to;
+        hit = λ v y. rw (to, ← same-value y) d;
+        miss = λ y. cc;
+      }
 
-pub ruleset quick_laws = (miss, six-inside, six-fits, quick-hit)
+pub ruleset quick_laws = (missed, six-inside, six-fits, quick-hit)

@@ -1,7 +1,10 @@
 -- A quick answer, which is right where it is one.
-use Rattle.std.specs.Prelude.{ℕ, ◌≡◌, Option, Some}
-use Rattle.text.specs.declared.TextLocation.{TextLocation}
-use Rattle.text.specs.Reader.{Result, ok}
+use Rattle.std.specs.Prelude.{ℕ, ◌≡◌, Option, Some, None}
+use Rattle.text.specs.declared.TextReader.{TextReader}
+use Rattle.text.specs.Reader.{ok, Reader}
 
-pub record Meets (r : Option (ℕ × TextLocation)) (d : Result ℕ) : Type 0 where
-  pub hit : (v : ℕ) (q : TextLocation) → r ≡ Some (v, q) → ok v q ≡ d
+-- the reader old looked at for p: a hit is what p gives, of the same text, with new where p ends; a miss leaves the reader as it was
+pub record Meets (p : Reader ℕ) (old new : TextReader) (r : Option ℕ) : Type 0 where
+  pub kept : new.text ≡ old.text
+  pub hit : (v : ℕ) → r ≡ Some v → ok v new.location ≡ p old.text.now old.location
+  pub miss : r ≡ None → new ≡ old

@@ -3,7 +3,7 @@
 
 ghost use Rattle.std.specs.Prelude.{◌≡◌, false};
 ghost use Rattle.text.specs.Rest.{Sound};
-ghost use Rattle.lexical.specs.Lexical.{told_byte};
+ghost use Rattle.lexical.specs.Reads.{Reads};
 ghost use Rattle.hexadecimal.specs.Hex.{value_of, hex_table};
 ghost use Rattle.body.specs.Data.{item};
 ghost use Rattle.rows.specs.declared.RowsError.TheVariants.{Parse};
@@ -14,7 +14,7 @@ use body::{read_data_byte, read_trailer};
 use cells::unpack;
 use hexadecimal::hex_values;
 use lexical::ParseError;
-use text::{TextLocation, along, reaches};
+use text::TextReader;
 
 // What ends a picture's rows: a refusal, or rows of the buffer that are not the picture's.
 #[derive(Clone, Copy, Debug, PartialEq, Eq)]
@@ -35,6 +35,7 @@ impl From<ParseError> for RowsError {
 const COMMA_TO_MARK: u32 = 0x7830_202c;
 
 // A digit's value by the table.
+#[tactic(auto, using(crate::proofs::Group::table_laws))]
 fn hex_at(table: &[u8; 256], b: u8) -> Option<u8>
     requires { table.now ≡ hex_table }
     ensures { result ≡ value_of b }
@@ -44,66 +45,59 @@ fn hex_at(table: &[u8; 256], b: u8) -> Option<u8>
 }
 
 // The common `, 0xHH` at once. Past the first data byte the place is known to be sound, and is not judged again.
-fn quick_byte(
-    text: &[u8],
-    place: TextLocation,
-    first: bool,
-    table: &[u8; 256],
-) -> Option<(u8, TextLocation)>
-    requires { (table.now ≡ hex_table) × (first ≡ false → Sound place) }
-    ensures { Meets result (item first text.now place) }
+fn quick_byte(r: &mut TextReader<'_>, table: &[u8; 256]) -> Option<u8>
+    requires { (table.now ≡ hex_table) × Sound r.old.location }
+    ensures { Meets (item false) r.old r.new result }
 {
-    if first || !reaches(text, place, 6) {
+    if !r.reaches(6) {
         return None;
     }
-    let i = place.byte.0 as usize;
+    let text = r.text;
+    let i = r.location.byte.0 as usize;
     if u32::from_le_bytes([text[i], text[i + 1], text[i + 2], text[i + 3]]) != COMMA_TO_MARK {
         return None;
     }
     let hi = hex_at(table, text[i + 4])?;
     let lo = hex_at(table, text[i + 5])?;
-    Some((hi * 16 + lo, along(place, 6)))
+    r.pass_along(6);
+    Some(hi * 16 + lo)
 }
 
-// The next data byte: the common form at once, anything else by the plain reader. The plain answer is taken apart and made again, so that
-// it shares no memory with the quick one, which then stays in registers: handed on as it is, decoding took two to three times as long.
-fn next_data(
-    text: &[u8],
-    place: TextLocation,
-    first: bool,
-    table: &[u8; 256],
-) -> Result<(u8, TextLocation), ParseError>
-    requires { (table.now ≡ hex_table) × (first ≡ false → Sound place) }
-    ensures { told_byte result ≡ item first text.now place }
+// The next data byte: the common form at once, anything else by the plain reader. The first is told apart, since it has no comma and its
+// place is not yet judged. The plain answer is taken apart and made again, so that it shares no memory with the quick one, which then
+// stays in registers: handed on as it is, decoding took two to three times as long.
+fn next_data(r: &mut TextReader<'_>, first: bool, table: &[u8; 256]) -> Result<u8, ParseError>
+    requires { (table.now ≡ hex_table) × (first ≡ false → Sound r.old.location) }
+    ensures { Reads (item first) r.old r.new result }
 {
-    if let Some((v, next)) = quick_byte(text, place, first, table) {
-        return Ok((v, next));
+    if !first {
+        if let Some(v) = quick_byte(r, table) {
+            return Ok(v);
+        }
     }
-    let (v, next) = read_data_byte(text, place, first)?;
-    Ok((v, next))
+    let v = read_data_byte(r, first)?;
+    Ok(v)
 }
 
 // Fills the whole rows of `width` cells that the buffer has, as far as the picture goes. Eight cells are unpacked apart from fewer: with
 // one call for both it takes a fifth more instructions.
 pub fn read_rows(
-    text: &[u8],
-    place: TextLocation,
+    mut r: TextReader<'_>,
     width: u32,
     height: u32,
     pixels: &mut [u8],
 ) -> Result<(), RowsError>
-    ensures { Filled width height text.now place pixels.old pixels.new result }
+    ensures { Filled width height r.entry.text.now r.entry.location pixels.old pixels.new result }
 {
     let w = width as usize;
     let h = height as usize;
     let rows = pixels.len().checked_div(w).unwrap_or(0);
     let across = w.div_ceil(8);
     let table = hex_values();
-    let mut at = place;
     let mut first = true;
     for y in 0..rows.min(h) {
         for j in 0..across {
-            let (v, next) = next_data(text, at, first, &table)?;
+            let v = next_data(&mut r, first, &table)?;
             let x = 8 * j;
             let start = y * w + x;
             let left = w - x;
@@ -114,15 +108,14 @@ pub fn read_rows(
                 let row_end = start + left;
                 unpack(v, &mut pixels[start..row_end]);
             }
-            at = next;
             first = false;
         }
     }
     if rows < h {
-        read_data_byte(text, at, first)?;
+        read_data_byte(&mut r, first)?;
         return Err(RowsError::DimensionMismatch);
     }
-    read_trailer(text, at)?;
+    read_trailer(&mut r)?;
     if rows == h {
         Ok(())
     } else {

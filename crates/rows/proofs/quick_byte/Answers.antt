@@ -4,4 +4,4 @@ use Rattle.rows.proofs.Group.{quick_laws}
 use Rattle.rows.proofs.quick_byte.Goals as goal
 
 pub returns : goal.returns
-returns c = search (quick_laws, c.in_ok-hi.was, c.in_ok-lo.was, c.type_inv.text, rules)
+returns c = search (quick_laws, c.in_ok-hi.was, c.in_ok-lo.was, rules)
