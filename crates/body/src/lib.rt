@@ -3,7 +3,7 @@
 
 ghost use Rattle.std.specs.Prelude.{◌≡◌};
 ghost use Rattle.lexical.specs.Lexical.{number, told, told_byte, byte, is};
-ghost use Rattle.body.specs.Data.{item, brace, closing, trailer};
+ghost use Rattle.body.specs.Data.{item, brace, closing, trailer, bytes_of};
 ghost use Rattle.body.specs.Code.{separator, ended};
 
 use hexadecimal::read_hex_byte;
@@ -85,4 +85,11 @@ pub fn read_trailer(text: &[u8], place: TextLocation) -> Result<TextLocation, Pa
 {
     let next = read_closing(text, place)?;
     read_end(text, read_optional_whitespace(text, next))
+}
+
+// How many data bytes a picture has: rows start at whole bytes.
+pub fn data_size(width: u32, height: u32) -> u64
+    ensures { result ≡ bytes_of width height }
+{
+    u64::from(width).div_ceil(8) * u64::from(height)
 }
