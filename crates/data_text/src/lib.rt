@@ -22,6 +22,7 @@ fn bit_at(cells: &[u8], c: usize) -> u8
 }
 
 // n cells from `start` on as the bits of a byte, the least first.
+#[tactic(auto, using(crate::proofs::Packing::pack_laws))]
 fn pack(cells: &[u8], start: usize, n: usize) -> u8
     requires { (n ≤ 8) × (start + n < 2 ^ 64) }
     ensures { result ≡ bits cells.now start n }

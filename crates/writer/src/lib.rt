@@ -65,6 +65,7 @@ fn is_unbroken(name: &[u8]) -> bool
     name.iter().all(|b| !is_loose(*b))
 }
 
+#[tactic(auto, using(crate::proofs::Laws::name_laws))]
 fn is_good_name(name: &[u8]) -> bool
     ensures { result ≡ good_name name.now }
 {
