@@ -53,6 +53,7 @@ pub fn rewrite(
 // Rewrites the input, of which the first n bytes of `text` are all or as much as it has room for.
 // The answer is how many bytes of `out` are the rewritten text, or the line of a refusal.
 // A slice in place of `text` and n would be no plainer: the array's type shows that one byte too many finds room.
+// Nor would one function for this and `list_input`, generic in the call and the output's size: each is one line.
 pub fn rewrite_input(
     text: &[u8; TEXT_SIZE],
     n: usize,
