@@ -1,4 +1,4 @@
-// The data bytes of a picture as text: packed from its cells, twelve to a line, put into a lent buffer.
+// The data bytes of a mask as text: packed from its cells, twelve to a line, put into a lent buffer.
 #![tactic(auto)]
 
 ghost use Rattle.std.specs.Prelude.{◌≡◌, ◌+◌, ◌^◌, ◌<◌, ◌≤◌};
@@ -7,6 +7,8 @@ ghost use Rattle.print.specs.Puts.{Puts};
 ghost use Rattle.data_text.specs.Packed.{bit_at, bits, packed_at, packed};
 ghost use Rattle.data_text.specs.DataText.{lead_text, hex_text, byte_text, item_text, data_text, data_length};
 
+use body::data_size;
+use ink::Mask;
 use print::Buffer;
 
 // A cell as a bit: 1 for ink; past the last cell there is none.
@@ -20,6 +22,7 @@ fn bit_at(cells: &[u8], c: usize) -> u8
 }
 
 // n cells from `start` on as the bits of a byte, the least first.
+#[tactic(auto, using(crate::proofs::Packing::pack_laws))]
 fn pack(cells: &[u8], start: usize, n: usize) -> u8
     requires { (n ≤ 8) × (start + n < 2 ^ 64) }
     ensures { result ≡ bits cells.now start n }
@@ -31,15 +34,16 @@ fn pack(cells: &[u8], start: usize, n: usize) -> u8
     v
 }
 
-// Data byte k of a picture.
+// Data byte k of a mask.
 #[tactic(auto, using(crate::proofs::Packing::first_near), unfolding(crate::specs::Packed::packed_at))]
-fn packed_byte(cells: &[u8], width: usize, k: usize) -> u8
-    requires { (0 < width) × (width < 2 ^ 32) × (k + 8 < 2 ^ 61) }
-    ensures { result ≡ packed_at width cells.now k }
+fn packed_byte(mask: Mask<'_>, k: usize) -> u8
+    requires { (0 < mask.width) × (k + 8 < 2 ^ 61) }
+    ensures { result ≡ packed_at mask.entry.width mask.entry.cells.now k }
 {
+    let width = mask.width as usize;
     let row = (width + 7) / 8;
     let u = k % row * 8;
-    pack(cells, k / row * width + u, (width - u).min(8))
+    pack(mask.cells, k / row * width + u, (width - u).min(8))
 }
 
 // A hex digit in lower case. By hand: of what std's `{:x}` writes to a lent buffer its clauses say nothing where the write fails.
@@ -71,35 +75,28 @@ fn put_lead(out: &mut Buffer<'_>, k: usize)
 }
 
 // Data byte k and what stands before it.
-fn put_item(out: &mut Buffer<'_>, cells: &[u8], width: usize, k: usize)
-    requires { (0 < width) × (width < 2 ^ 32) × (k + 8 < 2 ^ 61) }
-    ensures { Puts (item_text width cells.now k) out.old out.new }
+fn put_item(out: &mut Buffer<'_>, mask: Mask<'_>, k: usize)
+    requires { (0 < mask.width) × (k + 8 < 2 ^ 61) }
+    ensures { Puts (item_text mask.entry.width mask.entry.cells.now k) out.old out.new }
 {
     put_lead(out, k);
-    put_hex(out, packed_byte(cells, width, k));
+    put_hex(out, packed_byte(mask, k));
 }
 
-// How many data bytes a picture has.
-fn byte_count(width: u32, height: u32) -> usize
-    ensures { result ≡ bytes_of width height }
+// The data bytes of a mask, from the newline after the brace up to the last digit.
+pub fn put_data(out: &mut Buffer<'_>, mask: Mask<'_>)
+    ensures { Puts (data_text 0 (packed mask.entry.width mask.entry.height mask.entry.cells.now)) out.old out.new }
 {
-    (width as usize + 7) / 8 * (height as usize)
-}
-
-// The data bytes of a picture, from the newline after the brace up to the last digit.
-pub fn put_data(out: &mut Buffer<'_>, width: u32, height: u32, cells: &[u8])
-    ensures { Puts (data_text 0 (packed width height cells.now)) out.old out.new }
-{
-    for k in 0..byte_count(width, height) {
-        put_item(out, cells, width as usize, k);
+    for k in 0..data_size(mask.width, mask.height) as usize {
+        put_item(out, mask, k);
     }
 }
 
 // How long that text is.
-pub fn data_length(width: u32, height: u32) -> usize
-    ensures { result ≡ data_length (bytes_of width height) }
+pub fn data_length(mask: Mask<'_>) -> usize
+    ensures { result ≡ data_length (bytes_of mask.entry.width mask.entry.height) }
 {
-    let n = byte_count(width, height);
+    let n = data_size(mask.width, mask.height) as usize;
     if n == 0 {
         return 0;
     }

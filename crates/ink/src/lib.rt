@@ -1,4 +1,4 @@
-// The cells of a picture, and how many are ink.
+// A mask, its sides and its cells, and how many of these are ink.
 #![tactic(auto)]
 
 ghost use Rattle.std.specs.Prelude.{◌≡◌, ◌*◌, min, take};
@@ -8,7 +8,7 @@ ghost use Rattle.ink.specs.Ink.{ink_of};
 pub fn cell_count(width: u32, height: u32) -> u64
     ensures { result ≡ width * height }
 {
-    (width as u64) * (height as u64)
+    u64::from(width) * u64::from(height)
 }
 
 // The lesser of a number and a length.
@@ -18,18 +18,34 @@ pub fn at_most(n: u64, length: usize) -> usize
     n.min(length as u64) as usize
 }
 
-// How many cells are ink, which is 0.
-#[tactic(auto, using(crate::proofs::Ink::ink_counted))]
-fn count_ink(cells: &[u8]) -> u64
-    ensures { result ≡ ink_of cells.now }
-{
-    cells.iter().filter(|cell| **cell == 0).count() as u64
+// A mask in memory: its sides, and its cells row after row.
+#[derive(Clone, Copy, Debug, PartialEq, Eq)]
+pub struct Mask<'a> {
+    pub width: u32,
+    pub height: u32,
+    pub cells: &'a [u8],
 }
 
-// How many cells of a picture are 0: the first width times height of those lent.
-pub fn picture_ink(cells: &[u8], width: u32, height: u32) -> u64
-    ensures { result ≡ ink_of (take (width * height) cells.now) }
-{
-    let size = at_most(cell_count(width, height), cells.len());
-    count_ink(&cells[..size])
+impl<'a> Mask<'a> {
+    // The mask of a lent buffer that may be larger: its cells are the first width times height, or as many as there are.
+    pub fn first_of(width: u32, height: u32, cells: &'a [u8]) -> Mask<'a>
+        ensures width { result.width ≡ width }
+        ensures height { result.height ≡ height }
+        ensures cells { result.cells.now ≡ take (width * height) cells.now }
+    {
+        let size = at_most(cell_count(width, height), cells.len());
+        Mask {
+            width,
+            height,
+            cells: &cells[..size],
+        }
+    }
+
+    // How many cells are ink, which is 0.
+    #[tactic(auto, using(crate::proofs::Ink::ink_counted))]
+    pub fn ink(self) -> u64
+        ensures { result ≡ ink_of self.entry.cells.now }
+    {
+        self.cells.iter().filter(|cell| **cell == 0).count() as u64
+    }
 }

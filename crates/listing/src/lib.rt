@@ -8,7 +8,7 @@ ghost use Rattle.listing.specs.Listing.{answer_text, Answered, Lists};
 use error::Refusal;
 use header::XbmHeaderData;
 use image::{Limits, read_within};
-use ink::picture_ink;
+use ink::Mask;
 use printing::{put_accepted, put_refusal};
 
 // What is listed of a text, within limits: the header and the ink of an accepted mask, or the refusal.
@@ -22,7 +22,7 @@ fn list_text(
     ensures { Answered limits.text limits.cells text.now name.old cells.old name.new cells.new result }
 {
     let header = read_within(text, name, cells, limits).image?;
-    Ok((header, picture_ink(cells, header.width, header.height)))
+    Ok((header, Mask::first_of(header.width, header.height, cells).ink()))
 }
 
 // The printed text of an answer.

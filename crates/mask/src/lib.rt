@@ -1,11 +1,11 @@
-// A mask in memory, its sides and its cells: what is wrong with it.
+// What is wrong with a mask in memory, its sides and its cells.
 #![tactic(auto)]
 
 ghost use Rattle.std.specs.Prelude.{◌≡◌};
 ghost use Rattle.std.specs.List.{list_all};
 ghost use Rattle.mask.specs.Fault.{is_cell, fault, told_fault};
 
-use ink::cell_count;
+use ink::{Mask, cell_count};
 
 // What is wrong with a mask.
 #[derive(Clone, Copy, Debug, PartialEq, Eq)]
@@ -30,16 +30,16 @@ fn all_cells(cells: &[u8]) -> bool
 
 // Checked in this order: no side is zero, the cells are width times height, and each is 0 or 255.
 #[tactic(auto, using(crate::proofs::Laws::cells_tested), unfolding(crate::specs::Fault::fault))]
-pub fn check_mask(width: u32, height: u32, cells: &[u8]) -> Result<(), MaskError>
-    ensures { told_fault result ≡ fault width height cells.now }
+pub fn check_mask(mask: Mask<'_>) -> Result<(), MaskError>
+    ensures { told_fault result ≡ fault mask.entry.width mask.entry.height mask.entry.cells.now }
 {
-    if width == 0 || height == 0 {
+    if mask.width == 0 || mask.height == 0 {
         return Err(MaskError::ZeroSide);
     }
-    if cells.len() as u64 != cell_count(width, height) {
+    if mask.cells.len() as u64 != cell_count(mask.width, mask.height) {
         return Err(MaskError::CellCount);
     }
-    if !all_cells(cells) {
+    if !all_cells(mask.cells) {
         return Err(MaskError::CellValue);
     }
     Ok(())

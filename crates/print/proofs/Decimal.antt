@@ -6,6 +6,8 @@ use Rattle.std.proofs.lemmas.Fmt.{decimal_from_appends, length-decimal-le}
 use Rattle.std.specs.Fmt as Printed
 use Rattle.std.specs.Int.RustNames.{FitsSigned}
 use mir.Syntax.{w32}
+use mir.Val.{to_z, of_z}
+use mir.ValLaws.{to_z-of_z}
 use Rattle.integer.specs.Decimal.{value_from}
 use Rattle.print.specs.Decimal.{digits, decimal, signed}
 
@@ -44,6 +46,10 @@ decimal-printed n h =
 pub signed-printed : (z : ℤ) → FitsSigned w32 z → Printed.signed_decimal z ≡ signed z
 signed-printed (pos n) h = decimal-printed n (omega (arith, h.sfits))
 signed-printed (negsuc n) h = ap (λ (d : List ℕ). 45 ∷ d) (decimal-printed (suc n) (omega (arith, h.sfits)))
+
+-- what a call is given of a number with a sign is read off its bits
+pub signed-given : (z : ℤ) → FitsSigned w32 z → Printed.signed_decimal (to_z w32 (of_z w32 z)) ≡ signed z
+signed-given z h = rw (to_z-of_z w32 z h) (signed-printed z h)
 
 value-last : (x : ℕ) (w : List ℕ) (d : ℕ) → value_from x (w ++ ((48 + d) ∷ [])) ≡ value_from x w * 10 + d
 value-last x [] d = omega arith

@@ -1,14 +1,12 @@
 -- What a step of the code says of the lent buffer.
-use Rattle.std.specs.Prelude.{◌≡◌, ℕ, ◌+◌, ◌<◌, ◌^◌, List, [], ◌∷◌, ◌++◌, refl, ℤ}
+use Rattle.std.specs.Prelude.{◌≡◌, ℕ, ◌+◌, ◌<◌, ◌^◌, List, [], ◌∷◌, ◌++◌, refl}
 use Rattle.std.proofs.Common.{sym, ap, ◌∙◌}
 use Rattle.std.proofs.lemmas.List.{take_more}
 use lib.ListN.{length, take, get_or}
 use mathlib.Core.List.{append-nil}
 use Rattle.std.specs.Fmt as Printed
-use Rattle.std.specs.Int.RustNames.{FitsSigned}
-use mir.Syntax.{w32}
-use Rattle.print.specs.Decimal.{decimal, signed}
-use Rattle.print.proofs.Decimal.{decimal-printed, signed-printed}
+use Rattle.print.specs.Decimal.{decimal}
+use Rattle.print.proofs.Decimal.{decimal-printed}
 use Rattle.print.specs.declared.Buffer.{Buffer}
 use Rattle.print.specs.Output.{output, puts, joined}
 use Rattle.print.specs.Puts.{Puts, held}
@@ -30,9 +28,6 @@ module _ {o o' : Buffer} where
   pub puts-decimal : (n : ℕ) → n < 2 ^ 64 → Puts (Printed.decimal n) o o' → Puts (decimal n) o o'
   puts-decimal n h p = rw (← decimal-printed n h) p
 
-  pub puts-signed : (z : ℤ) → FitsSigned w32 z → Puts (Printed.signed_decimal z) o o' → Puts (signed z) o o'
-  puts-signed z h p = rw (← signed-printed z h) p
-
 pub ruleset loop_laws = (puts-none, puts-more)
 
 -- words of several
@@ -49,10 +44,6 @@ module _ {o o₁ o₂ : Buffer} (u v : List ℕ) (p : Puts u o o₁) (q : Puts v
     pub puts-four : {o₄ : Buffer} (x : List ℕ) → Puts x o₃ o₄ → Puts (joined (u ∷ v ∷ w ∷ x ∷ [])) o o₄
     unfolding joined
     puts-four x s = rw (append-nil x) (puts-then u (v ++ (w ++ x)) p (puts-then v (w ++ x) q (puts-then w x r s)))
-
-pub ruleset joined_laws = (puts-two, puts-three, puts-four)
-
-pub ruleset number_laws = (puts-decimal, puts-signed)
 
 -- the buffer that was lent, when the struct is done with
 pub puts-end : {o o' : Buffer} {w s : List ℕ} → Puts w o o' → s ≡ o'.bytes.now → output s o'.at ≡ puts w (output o.bytes.now o.at)

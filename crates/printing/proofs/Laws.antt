@@ -5,25 +5,20 @@ use Rattle.std.specs.Int.RustNames.{FitsSigned}
 use Rattle.std.proofs.Math.Option.{some}
 use mir.Syntax.{w32}
 use mir.Val.{to_z, of_z}
-use mir.ValLaws.{to_z-of_z}
 use Rattle.text.specs.Ascii.{ascii}
 use Rattle.text.specs.declared.TextLocation.{TextLocation}
 use Rattle.error.specs.declared.Refusal.{Refusal}
 use Rattle.error.specs.Error.{told_refusal}
-use Rattle.print.specs.Decimal.{signed}
 use Rattle.print.specs.declared.Buffer.{Buffer}
 use Rattle.print.specs.Puts.{Puts}
-use Rattle.print.proofs.Steps.{puts-two, puts-three, puts-signed}
+use Rattle.print.proofs.Decimal.{signed-given}
+use Rattle.print.proofs.Steps.{puts-two, puts-three}
 use Rattle.printing.specs.Printed.{field_text, place_text, hot_text, printed}
-
--- what a call is given of a number with a sign is read off its bits
-signed-put : {o o' : Buffer} (z : ℤ) → FitsSigned w32 z → Puts (Printed.signed_decimal (to_z w32 (of_z w32 z))) o o' → Puts (signed z) o o'
-signed-put z h p = puts-signed z h (rw (to_z-of_z w32 z h) at p)
 
 module _ {o o₁ o₂ o₃ : Buffer} where
   pub pair-put : (x y : ℤ) → FitsSigned w32 x → FitsSigned w32 y → Puts (Printed.signed_decimal (to_z w32 (of_z w32 x))) o o₁ → Puts (ascii " ") o₁ o₂
       → Puts (Printed.signed_decimal (to_z w32 (of_z w32 y))) o₂ o₃ → Puts (hot_text (some (x, y))) o o₃
-  pair-put x y h k p q r = puts-three _ _ (signed-put x h p) q _ (signed-put y k r)
+  pair-put x y h k p q r = puts-three _ _ (rw (signed-given x h) at p) q _ (rw (signed-given y k) at r)
 
 -- a refusal: its number, its place where one is told, the line's end
 module _ {o o₁ o₂ : Buffer} (e : Refusal) {n : ℕ} (f : Puts (field_text (ascii "refused ") n) o o₁) (g : n ≡ e.number) where

@@ -1,16 +1,15 @@
 // Rewriting a mask: read from a text into lent buffers, and written anew into another.
 #![tactic(auto)]
 
-ghost use Rattle.std.specs.Prelude.{◌*◌, ◌≡◌, take};
+ghost use Rattle.std.specs.Prelude.{◌≡◌};
 ghost use Rattle.header.specs.Answer.{hot_of};
 ghost use Rattle.print.specs.Output.{output};
 ghost use Rattle.writer.specs.Writing.{writing};
 ghost use Rattle.rewriting.specs.Rewriting.{writing_in, Rewrites};
 ghost use Rattle.rewriting.specs.Program.{RewritesInput};
 
-use header::XbmHeaderData;
 use image::{Limits, read_within};
-use ink::{at_most, cell_count};
+use ink::Mask;
 use printing::put_refusal;
 use program::{CELLS_SIZE, LIMITS, TEXT_SIZE};
 use symbol::MAX_IDENTIFIER_LENGTH;
@@ -19,13 +18,11 @@ use writer::write_xbm;
 // Room for the text of every picture of so many cells.
 pub const REWRITTEN_SIZE: usize = 411140;
 
-// Writes a mask, whose cells are the first ones lent; where that is refused, the line of the refusal.
-fn put_mask(out: &mut [u8], name: &[u8], header: XbmHeaderData, cells: &[u8]) -> usize
-    ensures { output out.new result ≡ writing_in (writing name.now header.width header.height (hot_of header.hotspot)
-        (take (header.width * header.height) cells.now) out.old) }
+// Writes a mask; where that is refused, the line of the refusal.
+fn put_mask(out: &mut [u8], name: &[u8], mask: Mask<'_>, hotspot: Option<(i32, i32)>) -> usize
+    ensures { output out.new result ≡ writing_in (writing name.now mask.entry.width mask.entry.height (hot_of hotspot) mask.entry.cells.now out.old) }
 {
-    let n = at_most(cell_count(header.width, header.height), cells.len());
-    match write_xbm(name, header, &cells[..n], out) {
+    match write_xbm(name, mask, hotspot, out) {
         Ok(size) => size,
         Err(e) => put_refusal(out, e.into()),
     }
@@ -45,7 +42,10 @@ pub fn rewrite(
 {
     let read = read_within(text, name, cells, limits);
     match read.image {
-        Ok(header) => put_mask(out, &name[..read.name], header, cells),
+        Ok(header) => {
+            let mask = Mask::first_of(header.width, header.height, cells);
+            put_mask(out, &name[..read.name], mask, header.hotspot)
+        }
         Err(e) => put_refusal(out, e.into()),
     }
 }
@@ -53,6 +53,7 @@ pub fn rewrite(
 // Rewrites the input, of which the first n bytes of `text` are all or as much as it has room for.
 // The answer is how many bytes of `out` are the rewritten text, or the line of a refusal.
 // A slice in place of `text` and n would be no plainer: the array's type shows that one byte too many finds room.
+// Nor would one function for this and `list_input`, generic in the call and the output's size: each is one line.
 pub fn rewrite_input(
     text: &[u8; TEXT_SIZE],
     n: usize,

@@ -2,18 +2,17 @@
 use mathlib.Core.Path.{◌≡◌, refl, sym, ap, ◌∙◌}
 use Prim.Native.Nat.{ℕ, ◌+◌, ◌/◌, ◌^◌, ◌≤◌, ◌<◌}
 use native.Mathlib.Omega.{arith}
-use native.Mathlib.Numerals.{add-one}
 use native.Mathlib.Nat.{mul-le-mul_right}
 use mir.Syntax.{w64}
 use mir.Val.{Fits}
 use mathlib.Core.Bool.{Bool, true, false, not}
 use mathlib.Core.Option.{Option}
 use mathlib.Core.List.{List, ◌++◌}
-use lib.ListN.{length, length-take, length-replicate, replicate, take, drop, get_or, drop_of_length-le}
-use lib.Seq.{drop-cons, take-append_seam}
+use lib.ListN.{length, length-take, length-replicate, replicate, take, drop}
+use lib.Seq.{take-append_seam}
 use lib.Dec.{eqb}
 use lib.IntN.{ℤ}
-use borrow.Author.Tests.{eq-eqb, ne_eqb, le-leb, lt-leb, not-true, not-false}
+use borrow.Author.Tests.{le-leb, lt-leb, not-true, not-false}
 use Rattle.text.specs.Place.{pick}
 use Rattle.lexical.specs.Lexical.{is_blank, is_loose}
 use Rattle.body.specs.Data.{bytes_of}

@@ -14,6 +14,7 @@ use data_text::{data_length, put_data};
 use error::Refusal;
 use header::XbmHeaderData;
 use header_text::put_header;
+use ink::Mask;
 use lexical::is_loose;
 use mask::{MaskError, check_mask};
 use print::Buffer;
@@ -64,6 +65,7 @@ fn is_unbroken(name: &[u8]) -> bool
     name.iter().all(|b| !is_loose(*b))
 }
 
+#[tactic(auto, using(crate::proofs::Laws::name_laws))]
 fn is_good_name(name: &[u8]) -> bool
     ensures { result ≡ good_name name.now }
 {
@@ -71,23 +73,23 @@ fn is_good_name(name: &[u8]) -> bool
 }
 
 // What is wrong with the name or the mask.
-fn check(name: &[u8], width: u32, height: u32, cells: &[u8]) -> Result<(), XbmEncodeError>
-    ensures { told_check result ≡ wrong name.now width height cells.now }
+fn check(name: &[u8], mask: Mask<'_>) -> Result<(), XbmEncodeError>
+    ensures { told_check result ≡ wrong name.now mask.entry.width mask.entry.height mask.entry.cells.now }
 {
     if !is_good_name(name) {
         return Err(XbmEncodeError::BadName);
     }
-    check_mask(width, height, cells)?;
+    check_mask(mask)?;
     Ok(())
 }
 
 // The whole text: a header, the data bytes, and the end.
-fn put_text(out: &mut [u8], header: &[u8], width: u32, height: u32, cells: &[u8]) -> usize
-    ensures { output out.new result ≡ puts (whole_text header.now (packed width height cells.now)) (output out.old 0) }
+fn put_text(out: &mut [u8], header: &[u8], mask: Mask<'_>) -> usize
+    ensures { output out.new result ≡ puts (whole_text header.now (packed mask.entry.width mask.entry.height mask.entry.cells.now)) (output out.old 0) }
 {
     let mut out = Buffer { bytes: out, at: 0 };
     out.put_bytes(header);
-    put_data(&mut out, width, height, cells);
+    put_data(&mut out, mask);
     out.put_bytes(b"};\n");
     out.at
 }
@@ -95,19 +97,24 @@ fn put_text(out: &mut [u8], header: &[u8], width: u32, height: u32, cells: &[u8]
 // Writes a mask with which nothing is wrong. Its length is known before the first byte is put.
 fn write_sound(
     name: &[u8],
-    header: XbmHeaderData,
-    cells: &[u8],
+    mask: Mask<'_>,
+    hotspot: Option<(i32, i32)>,
     out: &mut [u8],
 ) -> Result<usize, XbmEncodeError>
-    requires { wrong name.now header.width header.height cells.now ≡ 0 }
-    ensures { told_writing result out.new ≡ stored (written name.now header.width header.height (hot_of header.hotspot) cells.now) out.old }
+    requires { wrong name.now mask.width mask.height mask.cells.now ≡ 0 }
+    ensures { told_writing result out.new ≡ stored (written name.now mask.entry.width mask.entry.height (hot_of hotspot) mask.entry.cells.now) out.old }
 {
     let mut text = [0u8; HEADER_SIZE];
+    let header = XbmHeaderData {
+        width: mask.width,
+        height: mask.height,
+        hotspot,
+    };
     let size = put_header(&mut text, name, header);
-    if size + data_length(header.width, header.height) + 3 > out.len() {
+    if size + data_length(mask) + 3 > out.len() {
         return Err(XbmEncodeError::ShortOutput);
     }
-    Ok(put_text(out, &text[..size], header.width, header.height, cells))
+    Ok(put_text(out, &text[..size], mask))
 }
 
 // Writes a mask as a text to the start of `out`; the answer is its length. Checked in this order, with `out` untouched:
@@ -115,12 +122,12 @@ fn write_sound(
 // 54 a cell is neither 0 nor 255, 55 `out` is too short.
 pub fn write_xbm(
     name: &[u8],
-    header: XbmHeaderData,
-    cells: &[u8],
+    mask: Mask<'_>,
+    hotspot: Option<(i32, i32)>,
     out: &mut [u8],
 ) -> Result<usize, XbmEncodeError>
-    ensures { told_writing result out.new ≡ writing name.now header.width header.height (hot_of header.hotspot) cells.now out.old }
+    ensures { told_writing result out.new ≡ writing name.now mask.entry.width mask.entry.height (hot_of hotspot) mask.entry.cells.now out.old }
 {
-    check(name, header.width, header.height, cells)?;
-    write_sound(name, header, cells, out)
+    check(name, mask)?;
+    write_sound(name, mask, hotspot, out)
 }

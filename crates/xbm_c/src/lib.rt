@@ -9,8 +9,9 @@ ghost use Rattle.xbm_c.specs.Write.{WriteCall};
 use byte_report::tell;
 use decoder::{XbmStreamDecoder, next_byte};
 use error::Refusal;
-use header::{XbmHeaderData, read_xbm_header};
+use header::read_xbm_header;
 use image::read_image;
+use ink::Mask;
 use report::{Summary, hotspot_given, write_hotspot, write_report};
 use summary::{header_told, image_told};
 use writer::write_xbm;
@@ -83,13 +84,12 @@ pub extern "C" fn xbm_write(
 ) -> u32
     ensures { WriteCall name.now width height has_hotspot x y cells.now out.old out.new length.new result }
 {
-    let hotspot = hotspot_given(has_hotspot, x, y);
-    let header = XbmHeaderData {
+    let mask = Mask {
         width,
         height,
-        hotspot,
+        cells,
     };
-    match write_xbm(name, header, cells, out) {
+    match write_xbm(name, mask, hotspot_given(has_hotspot, x, y), out) {
         Ok(n) => {
             *length = n as u64;
             0

@@ -5,4 +5,4 @@ use Rattle.data_text.specs.DataText.{data_text}
 use Rattle.data_text.proofs.put_data.Given as goal
 
 abbrev pub invariant-loop-k : goal.invariant-loop-k
-invariant-loop-k l = Puts (data_text 0 (packed_from l.width l.cells 0 l.k)) l.initial.out l.out
+invariant-loop-k l = Puts (data_text 0 (packed_from l.mask.width l.mask.cells.now 0 l.k)) l.initial.out l.out
