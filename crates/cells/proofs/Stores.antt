@@ -8,7 +8,7 @@ use mathlib.Core.List.{List, ◌++◌}
 use lib.ListN.{length, set, take, drop, length-set, length-take, length-drop, take-append-drop}
 use lib.Seq.{set-append_left}
 use Rattle.std.proofs.lemmas.List.{set-append_right}
-use borrow.Author.Tests.{eq-eqb, ne_eqb, lt-ltb, le-ltb}
+use borrow.Author.Tests.{ne_eqb, lt-ltb}
 use Rattle.std.specs.Int.{div_ceil}
 use Rattle.body.specs.Data.{row_bytes}
 use Rattle.cells.specs.Cells.{ink}
@@ -60,23 +60,11 @@ module _ (w k : ℕ) (h : w ≡ 0 → ⊥) {a : ℕ} (e : a ≡ div_ceil w 8) wh
       let z : (k / a + 1) * w ≤ n / w * w = mul-le-mul_right w (omega arith) in
       omega (arith, z, div-add-mod' n w, across, mod-lt k some)
 
-module _ (w k b : ℕ) (p : List ℕ) where
-  pub stored-none : w ≡ 0 → p ≡ byte_stored w k b p
-  unfolding byte_stored
-  stored-none h = rw (eq-eqb w 0 h)
-
-  module _ (h : w ≡ 0 → ⊥) {a : ℕ} (e : a ≡ div_ceil w 8) where
-    pub stored_past : length p / w ≤ k / a → p ≡ byte_stored w k b p
-    unfolding byte_stored
-    stored_past l = rw (ne_eqb w 0 h, ← across w k h e, le-ltb (k / a) (length p / w) l)
-
-    pub stored-in : k / a < length p / w → {m : ℕ} {q : List ℕ} → m ≡ min (w - k % a * 8) 8
-        → q ≡ unpacked b (take (k / a * w + k % a * 8 + m - (k / a * w + k % a * 8)) (drop (k / a * w + k % a * 8) p))
-        → take (k / a * w + k % a * 8) p ++ (q ++ drop (k / a * w + k % a * 8 + m - (k / a * w + k % a * 8)) (drop (k / a * w + k % a * 8) p)) ≡ byte_stored w k b p
-    unfolding byte_stored
-    stored-in l {m} s u =
-        let z : min 8 (w - k % a * 8) ≡ m = omega arith in
-        rw (ne_eqb w 0 h, ← across w k h e, lt-ltb (k / a) (length p / w) l, z, u)
-        (dab-part (k / a * w + k % a * 8) b m (k / a * w + k % a * 8 + m) p refl (end-within w k h e (length p) l s))
-
-pub ruleset storing_laws = (stored-none, stored_past, stored-in)
+pub stored_in : (w k b : ℕ) (p : List ℕ) → (w ≡ 0 → ⊥) → {a : ℕ} → a ≡ div_ceil w 8 → k / a < length p / w → {m : ℕ} {q : List ℕ} → m ≡ min (w - k % a * 8) 8
+    → q ≡ unpacked b (take (k / a * w + k % a * 8 + m - (k / a * w + k % a * 8)) (drop (k / a * w + k % a * 8) p))
+    → take (k / a * w + k % a * 8) p ++ (q ++ drop (k / a * w + k % a * 8 + m - (k / a * w + k % a * 8)) (drop (k / a * w + k % a * 8) p)) ≡ byte_stored w k b p
+unfolding byte_stored
+stored_in w k b p h {a} e l {m} s u =
+    let z : min 8 (w - k % a * 8) ≡ m = omega arith in
+    rw (ne_eqb w 0 h, ← across w k h e, lt-ltb (k / a) (length p / w) l, z, u)
+    (dab-part (k / a * w + k % a * 8) b m (k / a * w + k % a * 8 + m) p refl (end-within w k h e (length p) l s))
