@@ -1,6 +1,5 @@
 -- What is told of a reading that goes on after an answer or an error of its first part.
 use Prim.Native.Nat.{ℕ}
-use native.Mathlib.Omega.{arith}
 use mathlib.Core.Path.{◌≡◌, refl, ◌∙◌}
 use mathlib.Core.List.{List}
 use Rattle.text.specs.declared.TextLocation.{TextLocation}
@@ -21,30 +20,6 @@ shown-then : {A B : Type 0} (r : Result A) (k : A → TextLocation → Result B)
 shown-then (ok a e) k = refl
 shown-then (stop c e) k = refl
 shown-then (bad c e) k = refl
-
--- an error is no acceptance
-pub error-never : {A C : Type 0} (x : XbmDecodeError) {a : A} → told_error x ≡ accepted a → C
-error-never {A} {C} x {a} = go (error_number x) (place_of_error x)
-  where
-    go : (n : ℕ) (o : Option TextLocation) → told_at n o ≡ accepted a → C
-    go n (Some q) w = let z : ◌≡◌ {A = ℕ} 0 1 = cc in absurd (omega arith)
-    go n None w = let z : ◌≡◌ {A = ℕ} 0 1 = cc in absurd (omega arith)
-
--- it is told alike, whatever was to be read
-module _ {A B : Type 0} (x : XbmDecodeError) {c : ℕ} where
-  pub error-placed : {p : TextLocation} → told_error {A = A} x ≡ refused c p → told_error {A = B} x ≡ refused c p
-  error-placed {p} = go (error_number x) (place_of_error x)
-    where
-      go : (n : ℕ) (o : Option TextLocation) → told_at {A = A} n o ≡ refused c p → told_at {A = B} n o ≡ refused c p
-      go n (Some q) w = cc
-      go n None w = let z : ◌≡◌ {A = ℕ} 0 1 = cc in absurd (omega arith)
-
-  pub error-unplaced : told_error {A = A} x ≡ unplaced c → told_error {A = B} x ≡ unplaced c
-  error-unplaced = go (error_number x) (place_of_error x)
-    where
-      go : (n : ℕ) (o : Option TextLocation) → told_at {A = A} n o ≡ unplaced c → told_at {A = B} n o ≡ unplaced c
-      go n (Some q) w = let z : ◌≡◌ {A = ℕ} 0 1 = cc in absurd (omega arith)
-      go n None w = cc
 
 on-error : {A B : Type 0} (x : XbmDecodeError) (k : A → TextLocation → Outcome B) → told_error x ≡ on_told (told_error x) k
 on-error x k = go (error_number x) (place_of_error x)
