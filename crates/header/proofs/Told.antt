@@ -11,7 +11,7 @@ use Rattle.text.specs.Outcome.{Outcome, refused, unplaced, Ended, shown}
 use Rattle.text.specs.Leaf.{need, fork}
 use Rattle.text.proofs.Reading.{fork-first, fork-second, fork-neither, fork-end}
 use Rattle.integer.specs.declared.Fault.{Fault}
-use Rattle.integer.specs.Decimal.{parse_u32, unsigned_of, unsigned_fault, fault_number}
+use Rattle.integer.specs.Decimal.{parse_u32, value_in, fault_in, fault_number}
 use Rattle.lines.specs.Lines.{positive}
 use Rattle.error.specs.declared.XbmDecodeError.{XbmDecodeError}
 use Rattle.error.specs.Error.{told_error}
@@ -22,11 +22,11 @@ use Rattle.error.proofs.Told.{read_laws}
 
 -- an integer of a token; a side that must not be zero
 module _ {B : Type 0} (c : ℕ) (w : List ℕ) (f : ℕ → Reader B) (t : List ℕ) (i : TextLocation) {m : Result ℕ Fault} (e : m ≡ parse_u32 w) {z : Outcome (Ended B)} where
-  pub show-value : {n : ℕ} → m ≡ Ok n → z ≡ shown (f n t i) → z ≡ shown ((need (c + unsigned_fault (parse_u32 w)) (unsigned_of (parse_u32 w)) >>= f) t i)
+  pub show-value : {n : ℕ} → m ≡ Ok n → z ≡ shown (f n t i) → z ≡ shown ((need (c + fault_in (parse_u32 w)) (value_in (parse_u32 w)) >>= f) t i)
   unfolding need ◌>>=◌
   show-value h k = rw (← e, h) k
 
-  pub show-bad : {k : Fault} → m ≡ Err k → z ≡ unplaced (c + fault_number k) → z ≡ shown ((need (c + unsigned_fault (parse_u32 w)) (unsigned_of (parse_u32 w)) >>= f) t i)
+  pub show-bad : {k : Fault} → m ≡ Err k → z ≡ unplaced (c + fault_number k) → z ≡ shown ((need (c + fault_in (parse_u32 w)) (value_in (parse_u32 w)) >>= f) t i)
   unfolding need ◌>>=◌
   show-bad h k = rw (← e, h) k
 
