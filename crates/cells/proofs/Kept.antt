@@ -1,6 +1,7 @@
 -- What no data byte reaches: a remainder shorter than a row, and the cells of rows past the picture.
 use Rattle.std.specs.Prelude.{◌≡◌, refl, ℕ, zero, suc, ◌*◌, ◌/◌, ◌≤◌, ◌<◌, min, Bool, false, List, [], ◌∷◌, length}
-use Rattle.std.proofs.Common.{arith, div-add-mod', mod-lt, mul-le-mul_right, lt_of_mul-lt-mul_right, suc-mul, le_of_suc-le-suc, not-suc-le-zero}
+use Rattle.std.proofs.Common.{arith, mul-le-mul_right, le_of_suc-le-suc, not-suc-le-zero}
+use Rattle.std.proofs.Math.Nat.{le-div_iff_mul-le}
 use Rattle.std.proofs.Math.Option.{none}
 use Rattle.text.specs.declared.TextLocation.{TextLocation}
 use Rattle.text.specs.Reader.{Result, ok, stop, bad}
@@ -22,15 +23,9 @@ log-length (suc k) f t i = go (item f t i) (λ e. log-length k false t e)
     go (stop c e) h = omega arith
     go (bad c e) h = omega arith
 
--- a cell past m whole rows is no cell of theirs
-past : (w m c : ℕ) → 0 < w → m * w ≤ c → m ≤ c / w
-past w m c hw h =
-    let l : m * w < suc (c / w) * w = omega (arith, div-add-mod' c w, mod-lt c hw, suc-mul (c / w) w) in
-    le_of_suc-le-suc (lt_of_mul-lt-mul_right w l)
-
 pub kept : (w h n : ℕ) (f : Bool) (t : List ℕ) (i : TextLocation) (c x : ℕ) → 0 < w → min (n / w) h * w ≤ c → cell w (log_of (count w h n) f t i) c x ≡ x
 unfolding cell
 kept w h n f t i c x hw l =
     rw
     (at-past (log_of (count w h n) f t i) (byte_for w c)
-    (omega (arith, log-length (count w h n) f t i, mul-le-mul_right (row_bytes w) (past w (min (n / w) h) c hw l))))
+    (omega (arith, log-length (count w h n) f t i, mul-le-mul_right (row_bytes w) ((le-div_iff_mul-le hw).1 l))))

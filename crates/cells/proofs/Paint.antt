@@ -3,12 +3,13 @@ use mathlib.Core.Path.{◌≡◌, refl, sym, ap, ◌∙◌}
 use Prim.Native.Nat.{ℕ, zero, suc, ◌+◌, ◌-◌, ◌*◌, ◌/◌, ◌%◌, ◌≤◌, ◌<◌, min}
 use native.Mathlib.Omega.{arith}
 use native.Mathlib.Decide.{dec_lt, dec_le, ℕ_discrete}
-use native.Mathlib.Nat.{mul-add-div_right, mul-add-mod_self_right, div-eq_of_lt, mod-eq_of_lt, div-add-mod', mod-lt, le_of_suc-le-suc, not-suc-le-zero}
+use native.Mathlib.Nat.{div-add-mod', mod-lt, le_of_suc-le-suc, not-suc-le-zero}
 use mathlib.Core.Option.{Option, some}
 use mathlib.Core.List.{List, [], ◌∷◌, ◌++◌}
 use lib.ListN.{length, get_or, set}
 use lib.Seq.{get_or-set_same, get_or-set_other}
 use borrow.Author.Tests.{ne_eqb, lt-ltb}
+use Rattle.std.proofs.lemmas.Nat.{div-mul-add, mod-mul-add}
 use Rattle.std.specs.Int.{div_ceil}
 use Rattle.text.specs.declared.TextLocation.{TextLocation}
 use Rattle.body.specs.Data.{Log, row_bytes}
@@ -57,8 +58,7 @@ dab-out s b (suc n) p c h =
 -- ---- which cells those are: a number's quotient and rest are the only ones
 
 pub divmod : (m y r : ℕ) → 0 < m → r < m → ((y * m + r) / m ≡ y) × ((y * m + r) % m ≡ r)
-divmod m y r hm hr =
-    (mul-add-div_right hm y r ∙ ap (λ (k : ℕ). y + k) (div-eq_of_lt hr) ∙ omega arith, mul-add-mod_self_right y m r ∙ mod-eq_of_lt hr)
+divmod m y r hm hr = (div-mul-add y m r hr, mod-mul-add y m r hr)
 
 divmod-unique : (m y q z r : ℕ) → 0 < m → q < m → r < m → y * m + q ≡ z * m + r → (y ≡ z) × (q ≡ r)
 divmod-unique m y q z r hm hq hr e =

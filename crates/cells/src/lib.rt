@@ -13,6 +13,7 @@ fn least(bits: u8) -> u8
 }
 
 // Each cell takes its bit of v, the least first.
+#[tactic(auto, using(crate::proofs::Stores::unpack_laws))]
 pub fn unpack(v: u8, cells: &mut [u8])
     ensures { cells.new ≡ unpacked v cells.old }
 {
@@ -24,6 +25,7 @@ pub fn unpack(v: u8, cells: &mut [u8])
 }
 
 // The cells of data byte `position` of a picture so wide take its bits, where they fall in a whole row of the buffer.
+#[tactic(auto, using(crate::proofs::Stores::stored_in), unfolding(crate::specs::Stores::byte_stored))]
 pub fn store_byte(pixels: &mut [u8], width: u32, position: u64, v: u8)
     ensures { pixels.new ≡ byte_stored width position v pixels.old }
 {

@@ -15,7 +15,7 @@ use Rattle.lexical.specs.Token.{up_to, token}
 use Rattle.hexadecimal.specs.Hex.{hexv, hex_digit, hex_start, hex_digits, hex_unit}
 use Rattle.integer.specs.declared.Fault.{Fault}
 use Rattle.integer.specs.declared.Fault.TheVariants.{Empty, LeadingZero, NotDigit, OutOfRange}
-use Rattle.integer.specs.Decimal.{parse_u32, parse_i32, unsigned_of, signed_of, fault_number, unsigned_fault, signed_fault}
+use Rattle.integer.specs.Decimal.{parse_u32, parse_i32, value_in, fault_number, fault_in}
 use Rattle.lines.specs.Lines.{unsigned, signed, width_line, element, array_line}
 use Rattle.header.specs.Header.{rest as headerRest, header}
 use Rattle.body.specs.Data.{item, items, brace, closing, tail, trailer}
@@ -94,7 +94,7 @@ module _ {lo hi : ℕ} {bare : ℕ → Bool} where
     unfolding need
     unsigned-numbered = record { numbered = λ t i. go (parse_u32 w) t i }
       where
-        go : (u : Parsed ℕ Fault) (t : List ℕ) (i : TextLocation) → Good lo hi bare (need (c + unsigned_fault u) (unsigned_of u) t i)
+        go : (u : Parsed ℕ Fault) (t : List ℕ) (i : TextLocation) → Good lo hi bare (need (c + fault_in u) (value_in u) t i)
         go (Ok n) t i = tt
         go (Err f) t i = four-fault bare c s f
 
@@ -102,7 +102,7 @@ module _ {lo hi : ℕ} {bare : ℕ → Bool} where
     unfolding need
     signed-numbered = record { numbered = λ t i. go (parse_i32 w) t i }
       where
-        go : (u : Parsed ℤ Fault) (t : List ℕ) (i : TextLocation) → Good lo hi bare (need (c + signed_fault u) (signed_of u) t i)
+        go : (u : Parsed ℤ Fault) (t : List ℕ) (i : TextLocation) → Good lo hi bare (need (c + fault_in u) (value_in u) t i)
         go (Ok z) t i = tt
         go (Err f) t i = four-fault bare c s f
 

@@ -1,3 +1,2 @@
--- What the proofs of `error`, and of readings that end in an error, share, by module.
-pub mod Laws
+-- What the proofs of readings that end in an error share, by module.
 pub mod Told

@@ -13,7 +13,7 @@ use borrow.Author.Tests.{eqb-true, eqb-false, ne_eqb, leb-true, leb-false, lt-le
 use Rattle.text.specs.Place.{pick}
 use Rattle.integer.specs.declared.Fault.{Fault}
 use Rattle.integer.specs.declared.Fault.TheVariants.{Empty, LeadingZero, NotDigit, OutOfRange}
-use Rattle.integer.specs.Decimal.{is_digit, all_digits, value_from, digits_from, parse_u32, parse_i32, signed_of, positive, negative}
+use Rattle.integer.specs.Decimal.{is_digit, all_digits, value_from, digits_from, parse_u32, parse_i32, value_in, positive, negative}
 use Rattle.grammar.specs.Lang.{Word, ◌·◌}
 use Rattle.grammar.specs.Grammar.{Digits, value, Decimal, Coordinate}
 use Rattle.grammar.proofs.Tests.{value_same, digits-true, true-digits, valued, coordinate→integer}
@@ -149,7 +149,7 @@ plus-over v h = go (over-parse 2147483647 v h)
 numbered : (z : ℤ) (w : List ℕ) → Coordinate z w → parse_i32 w ≡ Ok z
 numbered z w c = go (parse_i32 w) (coordinate→integer w z c)
   where
-    go : (s : Result ℤ Fault) → signed_of s ≡ some z → s ≡ Ok z
+    go : (s : Result ℤ Fault) → value_in s ≡ some z → s ≡ Ok z
     go (Ok y) q = cc
     go (Err f) q = let x : ◌≡◌ {A = ℕ} 0 1 = cc in absurd (omega arith)
 

@@ -18,7 +18,7 @@ use Rattle.lexical.specs.declared.ParseError.{ParseError}
 use Rattle.lexical.specs.declared.XbmPart.{XbmPart}
 use Rattle.lexical.specs.Lexical.{number, broken}
 use Rattle.integer.specs.declared.Fault.{Fault}
-use Rattle.integer.specs.Decimal.{parse_u32, unsigned_of, unsigned_fault}
+use Rattle.integer.specs.Decimal.{parse_u32, value_in, fault_in}
 use Rattle.error.specs.declared.XbmDecodeError.{XbmDecodeError}
 use Rattle.error.specs.Error.{told_error, Decodes}
 use Rattle.error.proofs.Told.{decodes-as}

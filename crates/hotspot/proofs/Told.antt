@@ -10,7 +10,7 @@ use Rattle.text.specs.Leaf.{need}
 use Rattle.lexical.specs.declared.XbmPart.{XbmPart}
 use Rattle.lexical.specs.Lexical.{number}
 use Rattle.integer.specs.declared.Fault.{Fault}
-use Rattle.integer.specs.Decimal.{parse_i32, signed_of, signed_fault}
+use Rattle.integer.specs.Decimal.{parse_i32, value_in, fault_in}
 use Rattle.error.specs.declared.XbmDecodeError.{XbmDecodeError}
 use Rattle.error.specs.declared.XbmDecodeError.TheVariants.{DecodeInteger}
 use Rattle.error.specs.Error.{Decodes}

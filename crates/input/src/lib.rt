@@ -25,6 +25,7 @@ fn read_once<R: Read>(reader: &mut R, room: &mut [u8]) -> io::Result<usize>
 }
 
 // Reads until the input ends, the buffer is full or a read fails: how many bytes stand at the buffer's start.
+#[tactic(auto, using(crate::proofs::Laws::consumes_more))]
 pub fn read_input<R: Read>(reader: &mut R, buf: &mut [u8]) -> io::Result<usize>
     ensures within { ReadsAtMost result buf.new }
     ensures bytes { Brings (R.remaining reader.old) (R.remaining reader.new) result buf.new }

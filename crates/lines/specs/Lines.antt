@@ -7,7 +7,7 @@ use Rattle.text.specs.Reader.{Reader, ◌>>=◌, ◌>>◌}
 use Rattle.text.specs.Leaf.{give, want, need, fork}
 use Rattle.lexical.specs.Lexical.{is_loose, fixed, gap, line_end}
 use Rattle.lexical.specs.Token.{token}
-use Rattle.integer.specs.Decimal.{parse_u32, parse_i32, unsigned_of, signed_of, unsigned_fault, signed_fault}
+use Rattle.integer.specs.Decimal.{parse_u32, parse_i32, value_in, fault_in}
 use Rattle.symbol.specs.Symbol.{hash_define, end_width, before}
 
 -- an integer token has at most so many bytes
@@ -20,10 +20,10 @@ value c f = gap c >> token is_loose c token_limit >>= λ w. line_end c >> f w
 
 -- an integer of 32 bits: where the token is none, c and the number of its fault are told
 abbrev pub unsigned : ℕ → List ℕ → Reader ℕ
-unsigned c w = need (c + unsigned_fault (parse_u32 w)) (unsigned_of (parse_u32 w))
+unsigned c w = need (c + fault_in (parse_u32 w)) (value_in (parse_u32 w))
 
 abbrev pub signed : ℕ → List ℕ → Reader ℤ
-signed c w = need (c + signed_fault (parse_i32 w)) (signed_of (parse_i32 w))
+signed c w = need (c + fault_in (parse_i32 w)) (value_in (parse_i32 w))
 
 unfoldable pub positive : ℕ → Option ℕ
 positive n = pick (eqb n 0) none (some n)

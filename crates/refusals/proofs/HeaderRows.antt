@@ -14,7 +14,7 @@ use Rattle.lexical.specs.Lexical.{leading}
 use Rattle.lexical.proofs.Lexical.{locals, milds}
 use Rattle.integer.specs.declared.Fault.{Fault}
 use Rattle.integer.specs.declared.Fault.TheVariants.{Empty, LeadingZero, NotDigit, OutOfRange}
-use Rattle.integer.specs.Decimal.{parse_u32, fault_number, unsigned_fault}
+use Rattle.integer.specs.Decimal.{parse_u32, fault_number, fault_in}
 use Rattle.lines.specs.Lines.{unsigned, signed, side, positive, width_line, array_line}
 use Rattle.lines.proofs.Lines.{line_laws, element-local, element-mild}
 use Rattle.header.specs.Header.{Head, rest, header}
@@ -152,15 +152,15 @@ module _ (name w : List ℕ) (t : List ℕ) (m : TextLocation) where
 
   -- its token is no integer of 32 bits; d is none of the later numbers
   wide-bad : (d : ℕ) → eqb 21 d ≡ false → four (other d) 120 ≡ true → eqb 22 d ≡ false → four (other d) 130 ≡ true → four (other d) 140 ≡ true
-      → ((q : TextLocation) × ((wide (name, w) >>= next) t m ≡ bad d q)) ↔ ((number w ≡ none) × (110 + unsigned_fault (parse_u32 w) ≡ d))
-  wide-bad d a b c x y = rw (assoc (unsigned 110 w) sized next) (need-told (number w) (λ v. sized v >>= next) (110 + unsigned_fault (parse_u32 w)) d t m quiet-d)
+      → ((q : TextLocation) × ((wide (name, w) >>= next) t m ≡ bad d q)) ↔ ((number w ≡ none) × (110 + fault_in (parse_u32 w) ≡ d))
+  wide-bad d a b c x y = rw (assoc (unsigned 110 w) sized next) (need-told (number w) (λ v. sized v >>= next) (110 + fault_in (parse_u32 w)) d t m quiet-d)
     where
       quiet-d : (v : ℕ) → Quiet d (sized v >>= next)
       quiet-d v = search (quiets, rest-quiet) depth 40 fits 10000
 
   -- 21: it is 0
   wide-21 : ((q : TextLocation) × ((wide (name, w) >>= next) t m ≡ bad 21 q)) ↔ Decimal 0 w
-  wide-21 = rw (assoc (unsigned 110 w) sized next) (both_ways (need-some (number w) (λ v. sized v >>= next) (110 + unsigned_fault (parse_u32 w)) 21 t m (λ q. omega arith)) ((λ (v, q, x). there v q x), λ d. (0, decimal→number w 0 d (omega arith), (zero_is 0).1 refl)))
+  wide-21 = rw (assoc (unsigned 110 w) sized next) (both_ways (need-some (number w) (λ v. sized v >>= next) (110 + fault_in (parse_u32 w)) 21 t m (λ q. omega arith)) ((λ (v, q, x). there v q x), λ d. (0, decimal→number w 0 d (omega arith), (zero_is 0).1 refl)))
     where
       zero_is : (v : ℕ) → ((q : TextLocation) × ((sized v >>= next) t m ≡ bad 21 q)) ↔ (v ≡ 0)
       zero_is v = rw (assoc (need 21 (positive v)) (λ n. give (name, n)) next) (both_ways (need-none (positive v) (λ n. give (name, n) >>= next) 21 t m (λ n. quiet_bind (search quiets) next-quiet)) (none-positive v))
@@ -254,14 +254,14 @@ module _ (nw : List ℕ × ℕ) (w : List ℕ) (t : List ℕ) (m : TextLocation)
   sizing : high nw w ≡ (unsigned 120 w >>= λ v. need 22 (positive v) >>= tall)
   sizing = assoc (unsigned 120 w) (λ v. need 22 (positive v)) tall
 
-  high-bad : (d : ℕ) → eqb 22 d ≡ false → four (other d) 130 ≡ true → four (other d) 140 ≡ true → ((q : TextLocation) × (high nw w t m ≡ bad d q)) ↔ ((number w ≡ none) × (120 + unsigned_fault (parse_u32 w) ≡ d))
-  high-bad d a b c = rw sizing (need-told (number w) (λ v. need 22 (positive v) >>= tall) (120 + unsigned_fault (parse_u32 w)) d t m quiet-d)
+  high-bad : (d : ℕ) → eqb 22 d ≡ false → four (other d) 130 ≡ true → four (other d) 140 ≡ true → ((q : TextLocation) × (high nw w t m ≡ bad d q)) ↔ ((number w ≡ none) × (120 + fault_in (parse_u32 w) ≡ d))
+  high-bad d a b c = rw sizing (need-told (number w) (λ v. need 22 (positive v) >>= tall) (120 + fault_in (parse_u32 w)) d t m quiet-d)
     where
       quiet-d : (v : ℕ) → Quiet d (need 22 (positive v) >>= tall)
       quiet-d v = search (quiets, rest-quiet)
 
   high-22 : ((q : TextLocation) × (high nw w t m ≡ bad 22 q)) ↔ Decimal 0 w
-  high-22 = rw sizing (both_ways (need-some (number w) (λ v. need 22 (positive v) >>= tall) (120 + unsigned_fault (parse_u32 w)) 22 t m (λ q. omega arith)) ((λ (v, q, x). there v q x), λ d. (0, decimal→number w 0 d (omega arith), (zero_is 0).1 refl)))
+  high-22 = rw sizing (both_ways (need-some (number w) (λ v. need 22 (positive v) >>= tall) (120 + fault_in (parse_u32 w)) 22 t m (λ q. omega arith)) ((λ (v, q, x). there v q x), λ d. (0, decimal→number w 0 d (omega arith), (zero_is 0).1 refl)))
     where
       zero_is : (v : ℕ) → ((q : TextLocation) × ((need 22 (positive v) >>= tall) t m ≡ bad 22 q)) ↔ (v ≡ 0)
       zero_is v = both_ways (need-none (positive v) tall 22 t m (λ h. rest-quiet nw.0 nw.1 h refl refl)) (none-positive v)

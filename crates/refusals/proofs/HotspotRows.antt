@@ -16,7 +16,7 @@ use Rattle.text.specs.Outcome.{unplaced}
 use Rattle.lexical.specs.Lexical.{leading}
 use Rattle.integer.specs.declared.Fault.{Fault}
 use Rattle.integer.specs.declared.Fault.TheVariants.{Empty, LeadingZero, NotDigit, OutOfRange}
-use Rattle.integer.specs.Decimal.{parse_i32, fault_number, signed_fault}
+use Rattle.integer.specs.Decimal.{parse_i32, fault_number, fault_in}
 use Rattle.lines.specs.Lines.{line, side, signed, width_line}
 use Rattle.header.specs.Header.{Head, ending, hotspot, rest, header}
 use Rattle.image.specs.Reading.{reading}
@@ -176,8 +176,8 @@ module _ (limit : ℕ) (a : Three) (t : List ℕ) (m : TextLocation) (s : All so
 abbrev pub after_x : Three → ℤ → Reader Head
 after_x a x = line 4 a.0.0 (ascii "_y_hot") (signed 140) >>= λ y. ending a.0.0 a.0.1 a.1 (some (x, y))
 
-left-bad : (a : Three) (w t : List ℕ) (m : TextLocation) (d : ℕ) → four (other d) 140 ≡ true → ((q : TextLocation) × (left a w t m ≡ bad d q)) ↔ ((integer w ≡ none) × (130 + signed_fault (parse_i32 w) ≡ d))
-left-bad a w t m d h = need-told (integer w) (after_x a) (130 + signed_fault (parse_i32 w)) d t m quiet-d
+left-bad : (a : Three) (w t : List ℕ) (m : TextLocation) (d : ℕ) → four (other d) 140 ≡ true → ((q : TextLocation) × (left a w t m ≡ bad d q)) ↔ ((integer w ≡ none) × (130 + fault_in (parse_i32 w) ≡ d))
+left-bad a w t m d h = need-told (integer w) (after_x a) (130 + fault_in (parse_i32 w)) d t m quiet-d
   where
     quiet-d : (x : ℤ) → Quiet d (after_x a x)
     quiet-d x = search quiets depth 40 fits 10000
@@ -238,8 +238,8 @@ third-quiet : (limit : ℕ) {d : ℕ} → four (other d) 110 ≡ true → eqb 21
 unfolding third second first
 third-quiet limit a b x y z = search (quiets, width-quiet) depth 40 fits 10000
 
-right-bad : (b : Four) (w t : List ℕ) (m : TextLocation) (d : ℕ) → ((q : TextLocation) × (right b w t m ≡ bad d q)) ↔ ((integer w ≡ none) × (140 + signed_fault (parse_i32 w) ≡ d))
-right-bad b w t m d = need-told (integer w) (λ y. ending b.0.0.0 b.0.0.1 b.0.1 (some (b.1, y))) (140 + signed_fault (parse_i32 w)) d t m quiet-d
+right-bad : (b : Four) (w t : List ℕ) (m : TextLocation) (d : ℕ) → ((q : TextLocation) × (right b w t m ≡ bad d q)) ↔ ((integer w ≡ none) × (140 + fault_in (parse_i32 w) ≡ d))
+right-bad b w t m d = need-told (integer w) (λ y. ending b.0.0.0 b.0.0.1 b.0.1 (some (b.1, y))) (140 + fault_in (parse_i32 w)) d t m quiet-d
   where
     quiet-d : (y : ℤ) → Quiet d (ending b.0.0.0 b.0.0.1 b.0.1 (some (b.1, y)))
     quiet-d y = search quiets

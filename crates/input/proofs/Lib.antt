@@ -1,0 +1,2 @@
+-- What the proofs of `input` use, by module.
+pub mod Laws
