@@ -1,6 +1,6 @@
 -- What a step of the code says of a reading that answers a value or an error.
 use Prim.Native.Nat.{ℕ}
-use mathlib.Core.Path.{◌≡◌, refl, ap, ◌∙◌}
+use mathlib.Core.Path.{◌≡◌, refl, sym, ap, ◌∙◌}
 use Rattle.std.specs.Prelude.{Option, Some, None, Result as Answer, Ok, Err, MatchResult, IsErrAnd}
 use Rattle.std.proofs.lemmas.Result.{err_from_is_err_and}
 use Rattle.text.specs.declared.TextLocation.{TextLocation}
@@ -35,6 +35,14 @@ module _ {A B : Type 0} (x : XbmDecodeError) (k : A → TextLocation → Result 
       go n None (stop c i) h = cc
       go n (Some p) (bad c i) h = cc
       go n None (bad c i) h = (cc, refl)
+
+-- a reading that gives at the reader's place what another gives; one that breaks a rule
+module _ {A : Type 0} {p : Reader A} {r₀ r₁ : TextReader} where
+  pub decodes-as : {q : Reader A} {z : Answer A XbmDecodeError} → q r₀.text.now r₀.location ≡ p r₀.text.now r₀.location → Decodes q r₀ r₁ z → Decodes p r₀ r₁ z
+  decodes-as e k = record { kept = k.kept; answer = k.answer ∙ ap shown e; stands = ap end_of (sym e) ∙ k.stands }
+
+  pub decodes-error : {x : ParseError} {y : XbmDecodeError} → Reads p r₀ r₁ (Err x) → y ≡ parse_of x → Decodes p r₀ r₁ (Err y)
+  decodes-error h k = record { kept = h.kept; answer = rw (k, ← h.answer); stands = h.stands }
 
 -- one reading after another
 module _ {A B : Type 0} (p : Reader A) (f : A → Reader B) {r₀ r₁ : TextReader} where

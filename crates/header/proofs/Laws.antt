@@ -13,7 +13,7 @@ use Rattle.text.specs.Place.{start}
 use Rattle.text.specs.Reader.{Result, ok, stop, bad, Reader, ◌>>=◌}
 use Rattle.text.specs.Outcome.{Outcome, accepted, refused, unplaced, Ended, ending_at, shown}
 use Rattle.error.specs.declared.XbmDecodeError.{XbmDecodeError}
-use Rattle.error.specs.Error.{parse_of, error_number, place_of_error, told_at, told_error, Decodes}
+use Rattle.error.specs.Error.{parse_of, error_number, place_of_error, told_at, told_error, told_read, Decodes}
 use Rattle.error.proofs.Told.{decodes-read, decodes-broken}
 use Rattle.lexical.specs.Token.{overlay}
 use Rattle.symbol.specs.Symbol.{width_symbol, stored, named, Symboled}
@@ -40,13 +40,6 @@ error-length x = go (error_number x) (place_of_error x)
     go c (Some q) = refl
     go c None = refl
 
--- an answer with the place where its reader stands
-placed : (w : List ℕ) (p : Reader Head) {r₀ r₁ : TextReader} (x : Answer XbmHeaderData XbmDecodeError) (h : Answer (XbmHeaderData × TextLocation) XbmDecodeError) (Q : XbmHeaderData → XbmHeaderData × TextLocation → Type 0)
-    → Decodes p r₀ r₁ (headed w x) → MatchResult x (λ d. IsOkAnd h (Q d)) (λ e. h ≡ Err e) → ((d : XbmHeaderData) (y : XbmHeaderData × TextLocation) → Q d y → y ≡ (d, r₁.location)) → told_header w h ≡ shown (p r₀.text.now r₀.location)
-placed w p (Ok d) (Ok y) Q k m f = rw (f d y m) k.answer
-placed w p (Ok d) (Err e) Q k m f = absurd m
-placed w p (Err e) h Q k m f = rw m k.answer
-
 -- the header, from its width's symbol and what follows it
 module _ (t : Bor (List ℕ)) (lent later : List ℕ) {r₀ r₁ : TextReader} (b : (r₀.text ≡ t) × (r₀.location ≡ start)) {m : Answer ℕ ParseError} (s : Symboled r₀ r₁ lent later m) where
   symbol : later ≡ overlay (stored (length lent) t.now) lent
@@ -59,26 +52,21 @@ module _ (t : Bor (List ℕ)) (lent later : List ℕ) {r₀ r₁ : TextReader} (
       let e : told_error (parse_of x) ≡ shown (header (length lent) t.now start) = rw (← b.0, ← b.1) d.answer in
       rw k (record { answer = e; size = rw (shown-length (header (length lent) t.now start), ← e); symbol = symbol })
 
-  module _ {n : ℕ} (g : m ≡ Ok n) {r₂ : TextReader} (x : Answer XbmHeaderData XbmDecodeError) (d : Decodes (sides_of (take n later)) r₁ r₂ (headed (take n later) x)) (h : Answer (XbmHeaderData × TextLocation) XbmDecodeError)
-      (Q : XbmHeaderData → XbmHeaderData × TextLocation → Type 0) (o : MatchResult x (λ d. IsOkAnd h (Q d)) (λ e. h ≡ Err e)) (f : (d : XbmHeaderData) (y : XbmHeaderData × TextLocation) → Q d y → y ≡ (d, r₂.location)) where
-    whole : told_header (take n later) h ≡ shown (header (length lent) t.now start)
+  -- its parts, where the symbol is read
+  module _ {n : ℕ} (g : m ≡ Ok n) {r₂ : TextReader} (x : Answer XbmHeaderData XbmDecodeError) (d : Decodes (sides_of (take n later)) r₁ r₂ (headed (take n later) x)) where
+    whole : told_read (headed (take n later) x) r₂.location ≡ shown (header (length lent) t.now start)
     whole =
         let d : Decodes (header (length lent)) r₀ r₂ (headed (take n later) x) = rw (← parts (length lent)) (decodes-read (width_symbol (length lent)) (λ w. sides_of w) s.reads (ap (named later) g) d) in
-        rw (← b.0, ← b.1) (placed (take n later) (header (length lent)) x h Q d o f)
+        rw (← b.0, ← b.1) d.answer
 
-    fits : n ≤ length later
-    fits = rw g at s.fits
+    pub header_read : {h : XbmHeaderData} {p : TextLocation} → x ≡ Ok h → p ≡ r₂.location → Headed t.now lent later (record { header = Ok (h, p); name = n })
+    header_read {h} {p} v q =
+        let e : told_header (take n later) (Ok (h, p)) ≡ shown (header (length lent) t.now start) = rw q (rw v at whole) in
+        record { answer = e; size = rw (shown-length (header (length lent) t.now start), ← e) (sym (length-take-le n later (rw g at s.fits))); symbol = symbol }
 
-    pub header-ok : is_ok h ≡ true → Headed t.now lent later (record { header = h; name = n })
-    header-ok i = go h refl
-      where
-        go : (a : Answer (XbmHeaderData × TextLocation) XbmDecodeError) → h ≡ a → Headed t.now lent later (record { header = h; name = n })
-        go (Ok y) v = record { answer = whole; size = rw (shown-length (header (length lent) t.now start), ← whole, v) (sym (length-take-le n later fits)); symbol = symbol }
-        go (Err e) v = let z : is_ok h ≡ false = rw v in cc
+    pub header-not : {y : XbmDecodeError} → x ≡ Err y → Headed t.now lent later (record { header = Err y; name = 0 })
+    header-not {y} v =
+        let e : told_error y ≡ shown (header (length lent) t.now start) = rw v at whole in
+        record { answer = e; size = rw (shown-length (header (length lent) t.now start), ← e) (error-length y); symbol = symbol }
 
-    pub header-err : is_ok h ≡ false → Headed t.now lent later (record { header = h; name = 0 })
-    header-err i = go h refl
-      where
-        go : (a : Answer (XbmHeaderData × TextLocation) XbmDecodeError) → h ≡ a → Headed t.now lent later (record { header = h; name = 0 })
-        go (Ok y) v = let z : is_ok h ≡ true = rw v in cc
-        go (Err e) v = record { answer = rw v (rw v at whole); size = rw (shown-length (header (length lent) t.now start), ← whole, v) (error-length e); symbol = symbol }
+pub ruleset header_laws = (header_refused, header_read, header-not)

@@ -53,10 +53,11 @@ fn read_rest(
     let hotspot = match r.peek() {
         Some(b'#') => Some(read_hotspot(r, name)?),
         Some(b's') => None,
-        _ => {
-            r.next();
+        Some(b) => {
+            r.pass(b);
             return Err(ParseError::at(r, XbmPart::Array).into());
         }
+        None => return Err(ParseError::at(r, XbmPart::Array).into()),
     };
     read_array_line(r, name, XbmPart::Array)?;
     Ok(XbmHeaderData {
@@ -83,11 +84,16 @@ pub fn read_xbm_header(text: &[u8], name: &mut [u8]) -> HeaderAnswer
 {
     let mut r = TextReader::new(text);
     match read_width_symbol(&mut r, name) {
-        Ok(n) => {
-            let header = read_sides(&mut r, &name[..n]).map(|d| (d, r.loc()));
-            let name = if header.is_ok() { n } else { 0 };
-            HeaderAnswer { header, name }
-        }
+        Ok(n) => match read_sides(&mut r, &name[..n]) {
+            Ok(header) => HeaderAnswer {
+                header: Ok((header, r.loc())),
+                name: n,
+            },
+            Err(e) => HeaderAnswer {
+                header: Err(e),
+                name: 0,
+            },
+        },
         Err(e) => HeaderAnswer {
             header: Err(e.into()),
             name: 0,

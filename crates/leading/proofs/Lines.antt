@@ -1,6 +1,4 @@
 -- Lines that are skipped: a line's rest at once, and the lines before the first define line.
-use Rattle.std.specs.Prelude.{max}
-use native.Mathlib.Numerals.{add-one}
 use Prim.Native.Nat.{ℕ, suc, ◌+◌, ◌-◌, ◌*◌, ◌^◌, ◌<◌, ◌≤◌}
 use native.Mathlib.Nat.{zero-add}
 use native.Mathlib.Omega.{arith}
@@ -10,8 +8,7 @@ use mathlib.Core.Path.{◌≡◌, refl, sym, ap, ◌∙◌}
 use mathlib.Core.Option.{none}
 use mathlib.Core.List.{List, [], ◌∷◌}
 use mathlib.Core.Bool.{Bool, true, false}
-use lib.ListN.{length, drop, get_or, drop_of_length-le, length-drop}
-use lib.Seq.{drop-cons}
+use lib.ListN.{length, drop, length-drop}
 use lib.Dec.{eqb, ltb}
 use Rattle.std.specs.Prelude.{Option as Found, Some, None, ok_or, Result as Answer, Ok, Err}
 use Rattle.text.specs.declared.TextLocation.{TextLocation}
@@ -28,28 +25,8 @@ use Rattle.lexical.specs.declared.XbmPart.{XbmPart}
 use Rattle.lexical.specs.declared.ParseError.{ParseError}
 use Rattle.lexical.specs.Lexical.{number, broken, byte, skip, lead, leading}
 use Rattle.lexical.specs.Reads.{Reads}
-use Rattle.lexical.proofs.Laws.{reads-value, reads-refusal, reads-refused, Leads, leads-begin, leads-reads, leads-on}
+use Rattle.lexical.proofs.Laws.{reads-value, reads-refusal, reads-refused, Leads, leads-reads, leads-on}
 use Rattle.leading.specs.Line.{line_of, in_line, line_rest}
-
--- ---- where a line ends
-
--- i is reached in the search from `from` on
-module _ (s : List ℕ) (from i : ℕ) (e : i + length (line_of (drop i s)) ≡ from + length (line_of (drop from s))) where
-  pub end-here : i < length s → get_or s i 0 ≡ 10 → i ≡ from + length (line_of (drop from s))
-  end-here h k = let z : length (line_of (drop i s)) ≡ 0 = rw (drop-cons s i 0 h, eq-eqb _ _ k) in omega arith
-
-  pub end_on : i < length s → (get_or s i 0 ≡ 10 → ⊥) → i + 1 + length (line_of (drop (i + 1) s)) ≡ from + length (line_of (drop from s))
-  end_on h k = let z : length (line_of (drop i s)) ≡ suc (length (line_of (drop (i + 1) s))) = rw (add-one, drop-cons s i 0 h, ne_eqb _ _ k) in omega arith
-
-  pub end_none : length s ≤ i → (from ≤ length s → i ≤ length s) → max (length s) from ≡ from + length (line_of (drop from s))
-  end_none h k =
-      go (dec_lt (length s) from)
-    where
-      go : Dec (length s < from) → max (length s) from ≡ from + length (line_of (drop from s))
-      go (yes l) = let y : length (line_of (drop from s)) ≡ 0 = rw (drop_of_length-le s {i = from} (omega arith)) in omega arith
-      go (no l) = let z : length (line_of (drop i s)) ≡ 0 = rw (drop_of_length-le s h) in omega (arith, k (omega arith))
-
-pub ruleset end_laws = (end-here, end_on, end_none)
 
 -- ---- the rest of a line, by what remains
 
@@ -209,4 +186,4 @@ lines-less c {r} {r₁} g n =
 pub lines-over : (part : XbmPart) (r : TextReader) {m : Found ℕ} {x y : ParseError} {z : Answer (Unit {0}) ParseError} → m ≡ next_of r → m ≡ None → Err x ≡ ok_or m y → y ≡ broken part r.location → z ≡ Err x → Reads (leading (number part) true) r r z
 lines-over part r {x = x} {y = y} e n u s h = let w : x ≡ y = same_error (rw n at u) in rw h (lines-none r e part n (w ∙ s))
 
-pub ruleset lines_laws = (lines-found, lines-over, lines-on, lines-end, lines-less, leads-begin, leads-reads)
+pub ruleset lines_laws = (lines-found, lines-over, lines-on, lines-end, lines-less, leads-reads)

@@ -1,10 +1,11 @@
 -- What a step of the code says of the width's symbol.
 use Prim.Native.Nat.{ℕ, ◌+◌, ◌-◌, ◌≤◌}
 use native.Mathlib.Omega.{arith}
-use mathlib.Core.Path.{◌≡◌, refl, ap, ◌∙◌}
+use mathlib.Core.Path.{◌≡◌, refl, sym, ap, ◌∙◌}
 use mathlib.Core.List.{List, ◌++◌}
 use mathlib.Core.Bool.{true, false}
 use lib.ListN.{length, take, drop}
+use lib.Seq.{length-take-le}
 use Rattle.std.specs.Prelude.{Result as Answer, Ok, Err}
 use Rattle.std.specs.Borrow.{Bor}
 use Rattle.std.proofs.Common.{length-append, length-drop}
@@ -20,7 +21,7 @@ use Rattle.lexical.specs.Lexical.{number, broken, is_loose}
 use Rattle.lexical.specs.Token.{token, overlay}
 use Rattle.lexical.specs.Reads.{Reads, lent}
 use Rattle.lexical.proofs.Laws.{reads-value, reads-refusal, reads-then, reads-refused}
-use Rattle.symbol.specs.Symbol.{end_width, ends_with, before, opening, stored_from, width_symbol, Symboled}
+use Rattle.symbol.specs.Symbol.{end_width, ends_with, before, opening, stored_from, width_symbol, size_of, Symboled}
 use Rattle.symbol.proofs.Taken.{taken-span, taken-short, taken-token}
 
 -- a lent answer that is matched on
@@ -88,3 +89,13 @@ module _ {r₀ r₁ : TextReader} {m : Answer (Unit {0}) ParseError} (e : Reads 
       }
 
 pub ruleset symbol_laws = (symbol-refused, symbol-long, symbol-named, symbol-other, lent_laws)
+
+-- what was stored is within the buffer
+module _ (m : Answer ℕ ParseError) (later : List ℕ) (e : size_of m ≤ length later) {n : ℕ} (h : m ≡ Ok n) where
+  pub size_fits : n ≤ length later
+  size_fits = rw h at e
+
+  pub size-taken : n ≡ length (take n later)
+  size-taken = sym (length-take-le n later size_fits)
+
+pub ruleset size_laws = (size_fits, size-taken)

@@ -4,9 +4,6 @@ use Rattle.lexical.proofs.Laws.{refused-as}
 use Rattle.leading.proofs.Lines.{lines_laws}
 use Rattle.leading.proofs.skip_lines.Goals as goal
 
-pub loop-r-init : goal.loop-r-init
-loop-r-init c = search (lines_laws, rules)
-
 pub returns-in_err-ok_or : goal.returns-in_err-ok_or
 returns-in_err-ok_or c = search (lines_laws, c.in_err-ok_or.ensures.ok_part, c.in_err-ok_or.ensures.value, refused-as c.from_residual.ensures.1, rules)
 
