@@ -84,7 +84,7 @@ pub fn read_trailer(r: &mut TextReader<'_>) -> Result<(), ParseError>
     read_end(r)
 }
 
-// How many data bytes a picture has.
+// How many data bytes a picture has: rows start at whole bytes.
 pub fn data_size(width: u32, height: u32) -> u64
     ensures { result ≡ bytes_of width height }
 {

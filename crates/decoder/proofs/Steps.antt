@@ -1,24 +1,27 @@
 -- What a step of the code says of the foreign rule and of one call for the next data byte.
 use Prim.Native.Nat.{ℕ, ◌+◌, ◌<◌, ◌≤◌}
 use borrow.Author.Tests.{eq-eqb, ne_eqb, lt-ltb, le-ltb}
-use mathlib.Core.Path.{◌≡◌}
+use mathlib.Core.Path.{◌≡◌, refl}
 use mathlib.Core.Option.{Option, none, some}
 use mathlib.Core.Logic.{◌⊎◌, inl, inr}
 use mathlib.Core.List.{List}
 use mathlib.Core.Bool.{Bool, true, false}
 use lib.Dec.{eqb, ltb}
-use Rattle.std.specs.Prelude.{Result as Answer, Ok, Err}
+use Rattle.std.specs.Borrow.{Bor}
+use Rattle.std.specs.Prelude.{Some, None, Result as Answer, Ok, Err}
 use Rattle.text.specs.declared.TextLocation.{TextLocation}
+use Rattle.text.specs.declared.TextReader.{TextReader}
 use Rattle.text.specs.Place.{is_foreign}
-use Rattle.text.specs.Reader.{◌>>=◌}
+use Rattle.text.specs.Reader.{◌>>=◌, ◌>>◌}
 use Rattle.text.specs.Leaf.{give}
-use Rattle.text.specs.Outcome.{Outcome, accepted, unplaced}
+use Rattle.text.specs.Outcome.{Outcome, outcome}
 use Rattle.lexical.specs.declared.ParseError.{ParseError}
-use Rattle.lexical.specs.Lexical.{told, told_byte}
+use Rattle.lexical.specs.Reads.{Reads, told}
+use Rattle.lexical.proofs.Laws.{reads-then, reads-refused, reads-give}
 use Rattle.body.specs.Data.{item, trailer, bytes_of}
-use Rattle.decoder.specs.Step.{foreign, more, called, placed_at, told_next, Step, step_of}
+use Rattle.decoder.specs.Step.{foreign, more, called, spent, placed_at, told_call, step_of}
 use Rattle.decoder.specs.declared.StreamError.{StreamError}
-use Rattle.decoder.specs.declared.StreamError.TheVariants.{Parse}
+use Rattle.decoder.specs.declared.StreamError.TheVariants.{Parse, Foreign}
 use Rattle.decoder.specs.declared.XbmStreamDecoder.{XbmStreamDecoder}
 
 -- the foreign rule, by the first test that settles it
@@ -39,32 +42,43 @@ module _ (t : List ℕ) (d : XbmStreamDecoder) where
 
 pub ruleset foreign_laws = (foreign-sides, foreign-position, foreign-place)
 
--- one call
-abbrev stepped : Outcome (Option ℕ) → XbmStreamDecoder → Step
-stepped a d = record { answer = a; decoder = d }
-
+-- one call, by what is read
 module _ (t : List ℕ) (d : XbmStreamDecoder) {f : Bool} (e : f ≡ foreign t d) where
-  pub step-foreign : f ≡ true → stepped (unplaced 9) d ≡ step_of t d
+  pub step-foreign : f ≡ true → told_call (Err Foreign) d ≡ step_of t d
   unfolding step_of
   step-foreign h = rw (← e, h)
 
-  module _ (h : f ≡ false) {w : Bool} (g : w ≡ more d) where
-    module _ (l : w ≡ true) {r : Answer (ℕ × TextLocation) ParseError} (m : told_byte r ≡ item (eqb d.current_position 0) t d.location) where
-      pub step-byte : {b : ℕ} {q : TextLocation} → r ≡ Ok (b, q) → stepped (accepted (some b)) (placed_at d (d.current_position + 1) q) ≡ step_of t d
-      unfolding step_of called ◌>>=◌ give
-      step-byte k = rw (← e, h, ← g, l, ← m, k)
+-- the reader of a call
+abbrev at : Bor (List ℕ) → XbmStreamDecoder → TextReader
+at s d = record { text = s; location = d.location }
 
-      pub step-wrong : {x : ParseError} {y : StreamError} → r ≡ Err x → y ≡ Parse x → stepped (told_next (Err y)) (placed_at d (d.current_position + 1) x.place) ≡ step_of t d
-      unfolding step_of called ◌>>=◌ give
-      step-wrong k u = rw (u, ← e, h, ← g, l, ← m, k)
+-- what is read, by whether a data byte is left
+module _ (d : XbmStreamDecoder) {w : Bool} (g : w ≡ more d) {r₀ r : TextReader} {z : Answer (Option ℕ) ParseError} where
+  data-is : w ≡ true → Reads (item (eqb d.current_position 0) >>= λ b. give (some b)) r₀ r z → Reads (called d) r₀ r z
+  unfolding called
+  data-is l c = rw (← g, l) c
 
-    module _ (l : w ≡ false) {r : Answer TextLocation ParseError} (m : told r ≡ trailer t d.location) where
-      pub step-done : {q : TextLocation} → r ≡ Ok q → stepped (accepted none) (placed_at d d.current_position q) ≡ step_of t d
-      unfolding step_of called ◌>>=◌ give
-      step-done k = rw (← e, h, ← g, l, ← m, k)
+  end-is : w ≡ false → Reads (trailer >> give none) r₀ r z → Reads (called d) r₀ r z
+  unfolding called
+  end-is l c = rw (← g, l) c
 
-      pub step-bad : {x : ParseError} {y : StreamError} → r ≡ Err x → y ≡ Parse x → stepped (told_next (Err y)) (placed_at d d.current_position x.place) ≡ step_of t d
-      unfolding step_of called ◌>>=◌ give
-      step-bad k u = rw (u, ← e, h, ← g, l, ← m, k)
+module _ {s : Bor (List ℕ)} (d : XbmStreamDecoder) {f : Bool} (e : f ≡ foreign s.now d) (h : f ≡ false) {w : Bool} (g : w ≡ more d) {r : TextReader} {q : TextLocation} (k : q ≡ r.location) where
+  read-is : {z : Answer (Option ℕ) ParseError} {a : Outcome (Option ℕ)} {p : ℕ} → Reads (called d) (at s d) r z → a ≡ outcome (λ b. b) (told z q) → p ≡ spent d → record { answer = a; decoder = placed_at d p q } ≡ step_of s.now d
+  unfolding step_of
+  read-is c n v = rw (← e, h, n, v, k, c.answer, c.stands)
+
+  module _ (l : w ≡ true) {m : Answer ℕ ParseError} (c : Reads (item (eqb d.current_position 0)) (at s d) r m) where
+    pub step-byte : {b : ℕ} → m ≡ Ok b → told_call (Ok (Some b)) (placed_at d (d.current_position + 1) q) ≡ step_of s.now d
+    step-byte n = read-is (data-is d g l (reads-then _ _ c n (reads-give refl))) refl (rw (← g, l))
+
+    pub step-wrong : {x : ParseError} {y : StreamError} → m ≡ Err x → y ≡ Parse x → told_call (Err y) (placed_at d (d.current_position + 1) q) ≡ step_of s.now d
+    step-wrong n u = read-is (data-is d g l (reads-refused _ _ c n refl)) (rw u) (rw (← g, l))
+
+  module _ (l : w ≡ false) {m : Answer (Unit {0}) ParseError} (c : Reads trailer (at s d) r m) where
+    pub step-done : {u : Unit {0}} → m ≡ Ok u → told_call (Ok None) (placed_at d d.current_position q) ≡ step_of s.now d
+    step-done n = read-is (end-is d g l (reads-then _ _ c n (reads-give refl))) refl (rw (← g, l))
+
+    pub step-bad : {x : ParseError} {y : StreamError} → m ≡ Err x → y ≡ Parse x → told_call (Err y) (placed_at d d.current_position q) ≡ step_of s.now d
+    step-bad n u = read-is (end-is d g l (reads-refused _ _ c n refl)) (rw u) (rw (← g, l))
 
 pub ruleset step_laws = (step-foreign, step-byte, step-wrong, step-done, step-bad)
