@@ -26,6 +26,7 @@ pub fn hex_value(b: u8) -> Option<u8>
 }
 
 // The same of all bytes, as numbers and not as options: so one look-up tells both. Call it once, above a loop, and lend it down.
+#[tactic(auto, unfolding(crate::specs::Hex::hex_table, crate::specs::Hex::hex_of))]
 pub fn hex_values() -> [u8; 256]
     ensures { result ≡ hex_table }
 {
