@@ -22,7 +22,8 @@ fn list_text(
     ensures { Answered limits.text limits.cells text.now name.old cells.old name.new cells.new result }
 {
     let header = read_within(text, name, cells, limits).image?;
-    Ok((header, Mask::first_of(header.width, header.height, cells).ink()))
+    let mask = Mask::first_of(header.width, header.height, cells);
+    Ok((header, mask.ink()))
 }
 
 // The printed text of an answer.
