@@ -1,16 +1,16 @@
 -- What a step of the code says of the header.
-use Prim.Native.Nat.{ℕ, ◌≤◌}
+use Prim.Native.Nat.{ℕ}
 use mathlib.Core.Path.{◌≡◌, refl, sym, ap}
 use mathlib.Core.List.{List}
 use lib.ListN.{length, take}
 use lib.Seq.{length-take-le}
-use Rattle.std.specs.Prelude.{true, false, Option, Some, None, Result as Answer, Ok, Err, is_ok, MatchResult, IsOkAnd}
+use Rattle.std.specs.Prelude.{Option, Some, None, Result as Answer, Ok, Err}
 use Rattle.std.specs.Borrow.{Bor}
 use Rattle.text.specs.declared.TextLocation.{TextLocation}
 use Rattle.text.specs.declared.TextReader.{TextReader}
 use Rattle.lexical.specs.declared.ParseError.{ParseError}
 use Rattle.text.specs.Place.{start}
-use Rattle.text.specs.Reader.{Result, ok, stop, bad, Reader, ◌>>=◌}
+use Rattle.text.specs.Reader.{Result, ok, stop, bad}
 use Rattle.text.specs.Outcome.{Outcome, accepted, refused, unplaced, Ended, ending_at, shown}
 use Rattle.error.specs.declared.XbmDecodeError.{XbmDecodeError}
 use Rattle.error.specs.Error.{parse_of, error_number, place_of_error, told_at, told_error, told_read, Decodes}

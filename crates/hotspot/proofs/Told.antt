@@ -1,6 +1,6 @@
 -- What a step of the code says of a coordinate.
 use Prim.Native.Nat.{ℕ, ◌+◌, ◌*◌}
-use mathlib.Core.Path.{◌≡◌, refl, ap}
+use mathlib.Core.Path.{◌≡◌, refl}
 use mathlib.Core.List.{List}
 use lib.IntN.{ℤ}
 use Rattle.std.specs.Prelude.{Result as Answer, Ok, Err, MatchResult, IsErrAnd}
@@ -10,7 +10,7 @@ use Rattle.text.specs.Leaf.{need}
 use Rattle.lexical.specs.declared.XbmPart.{XbmPart}
 use Rattle.lexical.specs.Lexical.{number}
 use Rattle.integer.specs.declared.Fault.{Fault}
-use Rattle.integer.specs.Decimal.{parse_i32, value_in, fault_in}
+use Rattle.integer.specs.Decimal.{parse_i32}
 use Rattle.error.specs.declared.XbmDecodeError.{XbmDecodeError}
 use Rattle.error.specs.declared.XbmDecodeError.TheVariants.{DecodeInteger}
 use Rattle.error.specs.Error.{Decodes}

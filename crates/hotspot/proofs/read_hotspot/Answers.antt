@@ -1,7 +1,7 @@
 -- What the search leaves of `read_hotspot`.
 use Rattle.std.proofs.Common.{rules}
 use Rattle.lexical.proofs.Laws.{refused-as}
-use Rattle.error.proofs.Told.{decodes_laws, decodes-then, decodes-give}
+use Rattle.error.proofs.Told.{decodes_laws, decodes-then}
 use Rattle.hotspot.specs.Hotspot.{spot}
 use Rattle.hotspot.proofs.read_hotspot.Goals as goal
 
@@ -15,4 +15,4 @@ returns-in_err-y c = search (decodes_laws, c.in_ok-x.was, c.in_err-y.was, refuse
 
 pub returns : goal.returns
 unfolding spot
-returns c = decodes-then _ _ c.read_coordinate_line.ensures c.in_ok-x.was (decodes-then _ _ c.read_coordinate_line-2.ensures c.in_ok-y.was (decodes-give (search rules)))
+returns c = decodes-then _ _ c.read_coordinate_line.ensures c.in_ok-x.was (decodes-then _ _ c.read_coordinate_line-2.ensures c.in_ok-y.was (search (decodes_laws, rules)))
