@@ -12,7 +12,7 @@ use Rattle.text.specs.declared.TextReader.{TextReader}
 use Rattle.text.specs.declared.TextLocation.{TextLocation}
 use Rattle.text.specs.Place.{peeked_at}
 use Rattle.text.specs.TextReader.{next_of, moved_to, moved_on, passed}
-use Rattle.text.specs.Reader.{Result, ok, stop, bad, then, Reader, ◌>>=◌, ◌>>◌}
+use Rattle.text.specs.Reader.{Result, ok, stop, bad, then, ◌>>=◌, ◌>>◌}
 use Rattle.text.specs.Leaf.{one, fork, eot}
 use Rattle.text.proofs.Laws.{end-onward, end_rest, next-rest, reader-moved}
 use Rattle.text.proofs.Reading.{fork-first}
@@ -22,12 +22,9 @@ use Rattle.lexical.specs.Lexical.{broken, is_blank, is_loose, skip, byte, is, fi
 use Rattle.lexical.specs.Reads.{Reads}
 use Rattle.lexical.proofs.Laws.{reads-value, reads-refusal, reads-after, reads-refused, byte-yes, skip_stop}
 use Rattle.hexadecimal.specs.Hex.{hex_byte}
+use Rattle.hexadecimal.proofs.Hex.{reads-as}
 use Rattle.body.specs.Data.{item, brace}
 use Rattle.body.specs.Code.{separator, ended}
-
--- what q gives is what p gives
-as-read : {A : Type 0} (p q : Reader A) {r₀ r₁ : TextReader} {m : Answer A ParseError} → q r₀.text.now r₀.location ≡ p r₀.text.now r₀.location → Reads q r₀ r₁ m → Reads p r₀ r₁ m
-as-read p q e h = record { kept = h.kept; answer = h.answer ∙ e; stands = rw (← e) h.stands }
 
 -- the end of the text
 module _ (r₀ : TextReader) {r₁ : TextReader} {m : Taken ℕ} (e : m ≡ next_of r₀) (k : r₁ ≡ moved_on r₀) where
@@ -60,7 +57,7 @@ separator-at-once {m = m} e o h l k =
 -- a data byte that is not the first, by its separator
 spaced : (r₀ : TextReader) {r₁ : TextReader} {z : Answer ℕ ParseError} → Reads (separator >> skip is_loose >> hex_byte 6) r₀ r₁ z → Reads (item false) r₀ r₁ z
 unfolding item ◌>>=◌
-spaced r₀ h = as-read _ _ (go (skip is_loose r₀.text.now r₀.location)) h
+spaced r₀ h = reads-as _ _ (go (skip is_loose r₀.text.now r₀.location)) h
   where
     on : Unit {0} → TextLocation → Result ℕ
     on a e = (skip is_loose >> hex_byte 6) r₀.text.now e
@@ -105,7 +102,7 @@ module _ {r₀ : TextReader} {m : Taken ℕ} {w : Bool} (e : m ≡ next_of r₀)
       let h = looked 44 m o h in
       let f : Reads (fixed 7 (125 ∷ [])) _ r₁ z = rw g at f in
       let a = reads-after (byte 7 (is 44)) (λ a. skip is_loose >> fixed 7 (125 ∷ [])) (byte-yes (is 44) e h l k refl 7 refl) (reads-after (skip is_loose) (λ a. fixed 7 (125 ∷ [])) s f) in
-      as-read _ _ (fork-first 7 44 _ 125 _ r₀.text.now r₀.location e h refl refl) a
+      reads-as _ _ (fork-first 7 44 _ 125 _ r₀.text.now r₀.location e h refl refl) a
 
   pub brace-plain : w ≡ false → r ≡ r₀ → Reads brace r₀ r₁ z
-  brace-plain h g = as-read _ _ (no-comma r₀.text.now r₀.location m e (sym o ∙ h)) (rw g at f)
+  brace-plain h g = reads-as _ _ (no-comma r₀.text.now r₀.location m e (sym o ∙ h)) (rw g at f)
