@@ -10,7 +10,7 @@ use mathlib.Core.List.{List, [], ◌∷◌}
 use mathlib.Core.Bool.{Bool, true, false}
 use lib.ListN.{length, drop, length-drop}
 use lib.Dec.{eqb, ltb}
-use Rattle.std.specs.Prelude.{Option as Found, Some, None, ok_or, Result as Answer, Ok, Err}
+use Rattle.std.specs.Prelude.{Option as Found, Some, None, Result as Answer, Ok, Err}
 use Rattle.text.specs.declared.TextLocation.{TextLocation}
 use Rattle.text.specs.declared.TextReader.{TextReader}
 use Rattle.text.specs.TextReader.{left, next_of, passed_along, passed_line}
@@ -119,9 +119,6 @@ pub ruleset line_laws = (line-none, line-from, line-to, line-out)
 
 -- ---- lines before the first define line
 
-same_error : {A : Type 0} {x y : ParseError} → ◌≡◌ {A = Answer A ParseError} (Err x) (Err y) → x ≡ y
-same_error h = cc
-
 -- a reading that goes on as q does, once q has been read
 leads-then : {A B : Type 0} {p : Reader B} {r₀ : TextReader} (q : Reader A) (f : A → Reader B) {r r₁ : TextReader} {m : Answer A ParseError} {a : A} → Leads p r₀ (q >>= f) r → Reads q r r₁ m → m ≡ Ok a → Leads p r₀ (f a) r₁
 unfolding ◌>>=◌
@@ -152,7 +149,7 @@ module _ {m : Found ℕ} (r : TextReader) (e : m ≡ next_of r) where
   unfolding leading run
   lines-found {b} c h k = let (l, f) = found r.text.now r.location e h in reads-value refl (rw (f, eq-eqb b 35 k))
 
-  lines-none : (part : XbmPart) {x : ParseError} → m ≡ None → x ≡ broken part r.location → Reads (leading (number part) true) r r (Err x)
+  pub lines-none : (part : XbmPart) {x : ParseError} → m ≡ None → x ≡ broken part r.location → Reads (leading (number part) true) r r (Err x)
   unfolding leading run
   lines-none part h s = reads-refusal refl (ap (λ (x : ParseError). x.place) s) (rw (s, end_rest r.text.now r.location e h))
 
@@ -182,8 +179,4 @@ lines-less c {r} {r₁} g n =
     let a : ok tt r₁.location ≡ line_rest c r.text.now r.location = rw n at g.answer in
     rw g.kept (line-less c r.text.now (rest r.text.now r.location) r.location r₁.location refl a)
 
--- the exit of a `?` on a look at the next byte
-pub lines-over : (part : XbmPart) (r : TextReader) {m : Found ℕ} {x y : ParseError} {z : Answer (Unit {0}) ParseError} → m ≡ next_of r → m ≡ None → Err x ≡ ok_or m y → y ≡ broken part r.location → z ≡ Err x → Reads (leading (number part) true) r r z
-lines-over part r {x = x} {y = y} e n u s h = let w : x ≡ y = same_error (rw n at u) in rw h (lines-none r e part n (w ∙ s))
-
-pub ruleset lines_laws = (lines-found, lines-over, lines-on, lines-end, lines-less, leads-reads)
+pub ruleset lines_laws = (lines-found, lines-none, lines-on, lines-end, lines-less, leads-reads)

@@ -44,10 +44,13 @@ fn skip_line(r: &mut TextReader<'_>, part: XbmPart) -> Result<(), ParseError>
 fn skip_lines(r: &mut TextReader<'_>, part: XbmPart) -> Result<(), ParseError>
     ensures { Reads (leading (number part) true) r.old r.new result }
 {
-    while r.peek().ok_or(ParseError::at(r, part))? != b'#' {
+    while let Some(b) = r.peek() {
+        if b == b'#' {
+            return Ok(());
+        }
         skip_line(r, part)?;
     }
-    Ok(())
+    Err(ParseError::at(r, part))
 }
 
 // Skip whole lines, up to the first that begins with `#`. For speed a copy moves, and is stored back.

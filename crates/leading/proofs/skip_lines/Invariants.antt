@@ -5,8 +5,8 @@ use Rattle.lexical.specs.Lexical.{number, leading}
 use Rattle.lexical.proofs.Laws.{Leads}
 use Rattle.leading.proofs.skip_lines.Given as goal
 
-abbrev pub invariant-loop-r : goal.invariant-loop-r
-invariant-loop-r l = Leads (leading (number l.part) true) l.initial.r (leading (number l.part) true) l.r
+abbrev pub invariant-loop-b : goal.invariant-loop-b
+invariant-loop-b l = Leads (leading (number l.part) true) l.initial.r (leading (number l.part) true) l.r
 
-abbrev pub decreases-loop-r : goal.decreases-loop-r
-decreases-loop-r l = length (rest l.r.text.now l.r.location)
+abbrev pub decreases-loop-b : goal.decreases-loop-b
+decreases-loop-b l = length (rest l.r.text.now l.r.location)
