@@ -12,7 +12,7 @@ use lexical::{
 };
 use text::TextReader;
 
-// A limit on the length of an integer token.
+// A limit on the length of an integer token: -2^31 and 2^32 fit.
 const MAX_INTEGER_LENGTH: usize = 11;
 
 // A gap, an integer token, and the line's end.

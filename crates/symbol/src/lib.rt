@@ -28,7 +28,8 @@ fn read_opening(r: &mut TextReader<'_>) -> Result<(), ParseError>
     read_whitespace_gap(r, XbmPart::Width)
 }
 
-// The width's symbol, stored in `name`, also what was taken of one that is too long; the answer is the length of the name in it.
+// The width's symbol, stored in `name`, also what was taken of one that is too long; the answer is the length of the name in it,
+// as the C interface hands it on.
 pub fn read_width_symbol(r: &mut TextReader<'_>, name: &mut [u8]) -> Result<usize, ParseError>
     ensures { Symboled r.old r.new name.old name.new result }
 {
