@@ -1,8 +1,7 @@
 -- What a step of the code says of a reading that answers a value or an error.
 use Prim.Native.Nat.{ℕ}
 use mathlib.Core.Path.{◌≡◌, refl, sym, ap, ◌∙◌}
-use Rattle.std.specs.Prelude.{Option, Some, None, Result as Answer, Ok, Err, MatchResult, IsErrAnd}
-use Rattle.std.proofs.lemmas.Result.{err_from_is_err_and}
+use Rattle.std.specs.Prelude.{Option, Some, None, Result as Answer, Ok, Err}
 use Rattle.text.specs.declared.TextLocation.{TextLocation}
 use Rattle.text.specs.declared.TextReader.{TextReader}
 use Rattle.text.specs.Reader.{Result, ok, stop, bad, end_of, Reader, then, ◌>>=◌}
@@ -78,14 +77,3 @@ unfolding give
 decodes-give e = record { kept = refl; answer = rw e; stands = refl }
 
 pub ruleset decodes_laws = (decodes-read, decodes-broken, decodes-then, decodes-refused, decodes-give)
-
--- what `map_err` says of the answer that it was given
-pub mapped-ok : {A E D : Type 0} (r : Answer A E) {m : Answer A D} (Q : E → D → Type 0) {z : A} → MatchResult r (λ x. m ≡ Ok x) (λ e. IsErrAnd m (Q e))
-    → m ≡ Ok z → r ≡ Ok z
-mapped-ok (Ok x) Q h v = cc
-mapped-ok (Err e) {m} Q h v = let p = err_from_is_err_and m h in let q = p.1 in cc
-
-pub mapped-err : {A E D : Type 0} (r : Answer A E) {m : Answer A D} (Q : E → D → Type 0) {d : D} (g : E → D)
-    → MatchResult r (λ x. m ≡ Ok x) (λ e. IsErrAnd m (Q e)) → ((e : E) (y : D) → Q e y → y ≡ g e) → m ≡ Err d → (e : E) × (r ≡ Err e) × (d ≡ g e)
-mapped-err (Ok x) Q g h k v = cc
-mapped-err (Err e) {m} Q {d} g h k v = let (y, p, q) = err_from_is_err_and m h in let w : d ≡ y = cc in (e, refl, w ∙ k e y q)

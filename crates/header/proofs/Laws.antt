@@ -1,9 +1,8 @@
 -- What a step of the code says of the header.
 use Prim.Native.Nat.{ℕ}
-use mathlib.Core.Path.{◌≡◌, refl, sym, ap}
+use mathlib.Core.Path.{◌≡◌, refl, ap}
 use mathlib.Core.List.{List}
 use lib.ListN.{length, take}
-use lib.Seq.{length-take-le}
 use Rattle.std.specs.Prelude.{Option, Some, None, Result as Answer, Ok, Err}
 use Rattle.std.specs.Borrow.{Bor}
 use Rattle.text.specs.declared.TextLocation.{TextLocation}
@@ -17,6 +16,7 @@ use Rattle.error.specs.Error.{parse_of, error_number, place_of_error, told_at, t
 use Rattle.error.proofs.Told.{decodes-read, decodes-broken}
 use Rattle.lexical.specs.Token.{overlay}
 use Rattle.symbol.specs.Symbol.{width_symbol, stored, named, Symboled}
+use Rattle.symbol.proofs.Laws.{size-taken}
 use Rattle.header.specs.Header.{Head, header}
 use Rattle.header.specs.Answer.{told_header, headed, name_length, sides_of, Headed}
 use Rattle.header.specs.declared.XbmHeaderData.{XbmHeaderData}
@@ -62,7 +62,7 @@ module _ (t : Bor (List ℕ)) (lent later : List ℕ) {r₀ r₁ : TextReader} (
     pub header_read : {h : XbmHeaderData} {p : TextLocation} → x ≡ Ok h → p ≡ r₂.location → Headed t.now lent later (record { header = Ok (h, p); name = n })
     header_read {h} {p} v q =
         let e : told_header (take n later) (Ok (h, p)) ≡ shown (header (length lent) t.now start) = rw q (rw v at whole) in
-        record { answer = e; size = rw (shown-length (header (length lent) t.now start), ← e) (sym (length-take-le n later (rw g at s.fits))); symbol = symbol }
+        record { answer = e; size = rw (shown-length (header (length lent) t.now start), ← e) (size-taken m later s.fits g); symbol = symbol }
 
     pub header-not : {y : XbmDecodeError} → x ≡ Err y → Headed t.now lent later (record { header = Err y; name = 0 })
     header-not {y} v =
