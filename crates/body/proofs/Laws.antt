@@ -20,9 +20,8 @@ use Rattle.lexical.specs.declared.ParseError.{ParseError}
 use Rattle.lexical.specs.declared.XbmPart.TheVariants.{Trailing}
 use Rattle.lexical.specs.Lexical.{broken, is_blank, is_loose, skip, byte, is, fixed}
 use Rattle.lexical.specs.Reads.{Reads}
-use Rattle.lexical.proofs.Laws.{reads-value, reads-refusal, reads-after, reads-refused, byte-yes, skip_stop}
+use Rattle.lexical.proofs.Laws.{reads-value, reads-refusal, reads-after, reads-refused, byte-yes, skip_stop, reads-as}
 use Rattle.hexadecimal.specs.Hex.{hex_byte}
-use Rattle.hexadecimal.proofs.Hex.{reads-as}
 use Rattle.body.specs.Data.{item, brace}
 use Rattle.body.specs.Code.{separator, ended}
 

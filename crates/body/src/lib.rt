@@ -60,7 +60,10 @@ fn read_end(r: &mut TextReader<'_>) -> Result<(), ParseError>
     ensures { Reads ended r.old r.new result }
 {
     match r.next() {
-        Some(_) => Err(ParseError::at(r, XbmPart::Trailing)),
+        Some(_) => Err(ParseError {
+            part: XbmPart::Trailing,
+            place: r.location,
+        }),
         None => Ok(()),
     }
 }

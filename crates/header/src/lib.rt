@@ -55,9 +55,17 @@ fn read_rest(
         Some(b's') => None,
         Some(b) => {
             r.pass(b);
-            return Err(ParseError::at(r, XbmPart::Array).into());
+            return Err(ParseError {
+                part: XbmPart::Array,
+                place: r.location,
+            }
+            .into());
         }
-        None => return Err(ParseError::at(r, XbmPart::Array).into()),
+        None => return Err(ParseError {
+            part: XbmPart::Array,
+            place: r.location,
+        }
+        .into()),
     };
     read_array_line(r, name, XbmPart::Array)?;
     Ok(XbmHeaderData {

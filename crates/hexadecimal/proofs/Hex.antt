@@ -1,26 +1,28 @@
 -- What a step of the code says of hex bytes.
 use mir.Syntax.{w8}
 use mir.Val.{Fits}
-use Prim.Native.Nat.{ℕ, zero, suc, ◌+◌, ◌*◌, ◌<◌}
+use Prim.Native.Nat.{ℕ, zero, suc, ◌+◌, ◌*◌, ◌^◌, ◌<◌}
 use native.Mathlib.Omega.{arith}
 use borrow.Author.Tests.{ltb-true}
 use mathlib.Core.Path.{◌≡◌, refl, ap, ◌∙◌}
-use mathlib.Core.Option.{Option, none, some}
+use mathlib.Core.Option.{none, some}
 use mathlib.Core.List.{List, [], ◌∷◌}
 use mathlib.Core.Bool.{Bool, true, false}
-use lib.ListN.{get_or}
+use lib.ListN.{length, get_or}
 use lib.Dec.{ltb}
-use Rattle.std.specs.Prelude.{Option as Value, Some, None, ok_or, Result as Answer, Ok, Err}
+use Rattle.std.specs.Prelude.{Option as Value, Some, None, Result as Answer, Ok, Err}
 use Rattle.text.specs.declared.TextLocation.{TextLocation}
 use Rattle.text.specs.declared.TextReader.{TextReader}
 use Rattle.text.specs.Place.{pick, rest, after}
-use Rattle.text.specs.Reader.{ok, then, Reader, ◌>>=◌}
-use Rattle.text.specs.Leaf.{want, one, first, judge}
+use Rattle.text.specs.TextReader.{next_of, passed}
+use Rattle.text.specs.Reader.{ok}
+use Rattle.text.specs.Leaf.{one, first, judge}
+use Rattle.text.proofs.Laws.{reader_passed}
 use Rattle.lexical.specs.declared.XbmPart.{XbmPart}
 use Rattle.lexical.specs.declared.ParseError.{ParseError}
-use Rattle.lexical.specs.Lexical.{number, broken, any_byte}
+use Rattle.lexical.specs.Lexical.{number, broken}
 use Rattle.lexical.specs.Reads.{Reads}
-use Rattle.lexical.proofs.Laws.{reads-value, reads-refusal, reads-then, reads-refused, leads-reads}
+use Rattle.lexical.proofs.Laws.{one-value, one-refusal, one-lacks}
 use Rattle.hexadecimal.specs.Hex.{hex_of, value_of, values_from, hex_table, hexv, hex_digit}
 
 -- what `hex_value` answers
@@ -41,40 +43,23 @@ module _ (b : ℕ) {r : Value ℕ} (e : r ≡ value_of b) where
       go true u = cc
       go false u = refl
 
--- what q gives is what p gives
-pub reads-as : {A : Type 0} (p q : Reader A) {r₀ r₁ : TextReader} {m : Answer A ParseError} → q r₀.text.now r₀.location ≡ p r₀.text.now r₀.location → Reads q r₀ r₁ m → Reads p r₀ r₁ m
-reads-as p q e h = leads-reads (record { kept = refl; same = e }) h
+-- a digit, looked at and then passed
+module _ (part : XbmPart) {r₀ : TextReader} {m : Value ℕ} (e : m ≡ next_of r₀) where
+  module _ {r₁ : TextReader} {b : ℕ} (h : m ≡ Some b) (l : length r₀.text.now * 1 < 2 ^ 63) (k : r₁ ≡ passed b r₀) {o : Value ℕ} (w : o ≡ value_of b) where
+    pub digit-is : {v : ℕ} → o ≡ Some v → Reads (hex_digit (number part)) r₀ r₁ (Ok v)
+    unfolding hex_digit
+    digit-is n = one-value (number part) hexv e h (reader_passed r₀ e h l k) (hex-is b w n)
 
--- a digit is a byte that has a value
-valued : ℕ → Reader ℕ
-valued c = any_byte c >>= λ b. want c (hexv b)
+    pub digit-not : {x : ParseError} → o ≡ None → x ≡ broken part r₁.location → Reads (hex_digit (number part)) r₀ r₁ (Err x)
+    unfolding hex_digit
+    digit-not n s =
+        one-refusal (number part) hexv e h (reader_passed r₀ e h l k) (ap (λ (x : ParseError). number x.part) s) (ap (λ (x : ParseError). x.place) s) (hex-none b w n)
 
-valued-is : (c : ℕ) (t : List ℕ) (i : TextLocation) → valued c t i ≡ hex_digit c t i
-unfolding valued any_byte hex_digit one want ◌>>=◌
-valued-is c t i = go (rest t i)
-  where
-    value : (o : Option ℕ) (n : TextLocation) → want c o t n ≡ judge c o n
-    value none n = refl
-    value (some v) n = refl
+  pub digit-end : {x : ParseError} → m ≡ None → x ≡ broken part r₀.location → Reads (hex_digit (number part)) r₀ r₀ (Err x)
+  unfolding hex_digit
+  digit-end h s = one-lacks (number part) hexv e h (ap (λ (x : ParseError). number x.part) s) (ap (λ (x : ParseError). x.place) s)
 
-    go : (l : List ℕ) → then (first c (λ b. some b) l i) (λ b e. want c (hexv b) t e) ≡ first c hexv l i
-    go [] = refl
-    go (b ∷ l) = value (hexv b) (after b i)
-
-module _ (part : XbmPart) {r₀ r₁ : TextReader} {m : Answer ℕ ParseError} (e : Reads (any_byte (number part)) r₀ r₁ m) {z : Answer ℕ ParseError} where
-  pub digit-taken : {b : ℕ} {o : Value ℕ} {x : ParseError} → m ≡ Ok b → o ≡ value_of b → x ≡ broken part r₁.location → z ≡ ok_or o x → Reads (hex_digit (number part)) r₀ r₁ z
-  unfolding valued want
-  digit-taken {b} {o} {x} h w s t = reads-as _ (valued (number part)) (valued-is (number part) r₀.text.now r₀.location) (reads-then _ _ e h (go o refl))
-    where
-      go : (n : Value ℕ) → o ≡ n → Reads (want (number part) (hexv b)) r₁ r₁ z
-      go None n = rw (t, n, s, hex-none b w n) (reads-refusal refl refl refl)
-      go (Some v) n = rw (t, n, hex-is b w n) (reads-value refl refl)
-
-  pub digit-end : {x : ParseError} → m ≡ Err x → z ≡ Err x → Reads (hex_digit (number part)) r₀ r₁ z
-  unfolding valued
-  digit-end h t = reads-as _ (valued (number part)) (valued-is (number part) r₀.text.now r₀.location) (reads-refused _ _ e h t)
-
-pub ruleset digit_laws = (digit-taken, digit-end)
+pub ruleset digit_laws = (digit-is, digit-not, digit-end)
 
 -- a digit that was read is below 16
 digit-small : (c : ℕ) {r₀ r₁ : TextReader} {m : Answer ℕ ParseError} {v : ℕ} → Reads (hex_digit c) r₀ r₁ m → m ≡ Ok v → v < 16

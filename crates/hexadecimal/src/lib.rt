@@ -7,7 +7,7 @@ ghost use Rattle.lexical.specs.Reads.{Reads};
 ghost use Rattle.hexadecimal.specs.Hex.{value_of, hex_table, is_mark, hex_digit, hex_start, hex_byte};
 
 use hex_table::HEX;
-use lexical::{ParseError, XbmPart, read_byte, read_byte_of, read_fixed_string};
+use lexical::{ParseError, XbmPart, read_byte_of, read_fixed_string};
 use text::TextReader;
 
 mod hex_table;
@@ -33,12 +33,29 @@ pub fn hex_values() -> [u8; 256]
     HEX
 }
 
-// Read a single hex digit, either upper or lower case.
+// Read a single hex digit, either upper or lower case. The reader passes it in each branch, so that no newline is looked for past a digit.
 pub fn read_hex_digit(r: &mut TextReader<'_>, part: XbmPart) -> Result<u8, ParseError>
     ensures { Reads (hex_digit (number part)) r.old r.new result }
 {
-    let b = read_byte(r, part)?;
-    hex_value(b).ok_or(ParseError::at(r, part))
+    let Some(b) = r.peek() else {
+        return Err(ParseError {
+            part,
+            place: r.location,
+        });
+    };
+    match hex_value(b) {
+        Some(v) => {
+            r.pass(b);
+            Ok(v)
+        }
+        None => {
+            r.pass(b);
+            Err(ParseError {
+                part,
+                place: r.location,
+            })
+        }
+    }
 }
 
 // `x` or `X`.

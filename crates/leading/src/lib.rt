@@ -26,7 +26,10 @@ fn skip_line(r: &mut TextReader<'_>, part: XbmPart) -> Result<(), ParseError>
     ensures { Reads (line_rest (number part)) r.old r.new result }
 {
     if !r.has_left(1) {
-        return Err(ParseError::at(r, part));
+        return Err(ParseError {
+            part,
+            place: r.location,
+        });
     }
     let from = r.loc().byte.0 as usize;
     let end = line_end(r.text, from);
@@ -36,7 +39,10 @@ fn skip_line(r: &mut TextReader<'_>, part: XbmPart) -> Result<(), ParseError>
         Ok(())
     } else {
         r.pass_along(size);
-        Err(ParseError::at(r, part))
+        Err(ParseError {
+            part,
+            place: r.location,
+        })
     }
 }
 
@@ -50,7 +56,10 @@ fn skip_lines(r: &mut TextReader<'_>, part: XbmPart) -> Result<(), ParseError>
         }
         skip_line(r, part)?;
     }
-    Err(ParseError::at(r, part))
+    Err(ParseError {
+        part,
+        place: r.location,
+    })
 }
 
 // Skip whole lines, up to the first that begins with `#`. For speed a copy moves, and is stored back.

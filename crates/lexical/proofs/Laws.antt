@@ -116,6 +116,10 @@ module _ {A : Type 0} {p q : Reader A} {r₀ r : TextReader} (h : Leads p r₀ q
   pub leads-on : {q' : Reader A} {r' : TextReader} → r'.text ≡ r.text → q' r'.text.now r'.location ≡ q r.text.now r.location → Leads p r₀ q' r'
   leads-on k e = record { kept = k ∙ h.kept; same = e ∙ h.same }
 
+-- what q gives is what p gives
+pub reads-as : {A : Type 0} (p q : Reader A) {r₀ r₁ : TextReader} {m : Answer A ParseError} → q r₀.text.now r₀.location ≡ p r₀.text.now r₀.location → Reads q r₀ r₁ m → Reads p r₀ r₁ m
+reads-as p q e h = leads-reads (record { kept = refl; same = e }) h
+
 -- a reader at which a text goes on is short enough to be passed over
 module _ (r₀ r : TextReader) (l : length r₀.text.now * 1 < 2 ^ 63) (k : r.text ≡ r₀.text) {m : Taken ℕ} (e : m ≡ next_of r) {b : ℕ} (h : m ≡ Some b) {r₁ : TextReader} (t : r₁ ≡ passed b r) where
   pub passed-kept : r₁ ≡ moved_to (after b r.location) r

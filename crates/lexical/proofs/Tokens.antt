@@ -70,10 +70,10 @@ module _ (ends : ℕ → Bool) (c lim : ℕ) (r₀ : TextReader) (start : TextLo
       pub taking-end : {w : List ℕ} → m ≡ None → w ≡ since start r → Reads (token ends c lim) r₀ r (Ok w)
       taking-end h v = reads-value i.kept (rw v (run_end c (up_to ends lim) (λ w. some w) (since start r) r.text.now r.location e h refl i.left))
 
-pub taking-full : (ends : ℕ → Bool) (part : XbmPart) (lim : ℕ) (r₀ : TextReader) (start : TextLocation) (r : TextReader) {m : Taken ℕ} {b : ℕ} {t : Bool} {x : ParseError} → Taking ends (number part) lim r₀ start r → m ≡ next_of r
-    → m ≡ Some b → t ≡ ends b → t ≡ false → lim ≤ length (since start r) → x ≡ broken part r.location → Reads (token ends (number part) lim) r₀ r (Err x)
-taking-full ends part lim r₀ start r {x = x} i e h y n l s =
-    reads-refusal i.kept (ap (λ (x : ParseError). x.place) s)
-    (rw s (run-halt (number part) (up_to ends lim) (λ w. some w) (since start r) r.text.now r.location e h (rw (← y, n, le-ltb (length (since start r)) lim l)) i.left))
+pub taking-full : (ends : ℕ → Bool) (part : XbmPart) (lim : ℕ) (r₀ : TextReader) (start : TextLocation) (r : TextReader) {m : Taken ℕ} {b : ℕ} {t : Bool} {w : List ℕ} → Taking ends (number part) lim r₀ start r → m ≡ next_of r
+    → m ≡ Some b → t ≡ ends b → t ≡ false → w ≡ since start r → lim ≤ length w → Reads (token ends (number part) lim) r₀ r (Err (broken part r.location))
+taking-full ends part lim r₀ start r i e h y n v l =
+    reads-refusal i.kept refl
+    (run-halt (number part) (up_to ends lim) (λ w. some w) (since start r) r.text.now r.location e h (rw (← y, n, le-ltb (length (since start r)) lim (rw v at l))) i.left)
 
 pub ruleset taking_laws = (taking-more, taking-stop, taking-end, taking-full)

@@ -2,7 +2,7 @@
 #![tactic(auto)]
 
 ghost use Rattle.std.specs.Prelude.{◌≡◌, ℕ, Bool, Ok};
-ghost use Rattle.lexical.specs.Lexical.{is_blank, is_loose, number, broken, any_byte, byte, skip, gap, fixed, line_end};
+ghost use Rattle.lexical.specs.Lexical.{is_blank, is_loose, number, any_byte, byte, skip, gap, fixed, line_end};
 ghost use Rattle.lexical.specs.Class.{Decides};
 ghost use Rattle.lexical.specs.Reads.{Reads, lent};
 ghost use Rattle.lexical.specs.Token.{token};
@@ -27,18 +27,6 @@ pub enum XbmPart {
 pub struct ParseError {
     pub part: XbmPart,
     pub place: TextLocation,
-}
-
-impl ParseError {
-    // A rule of a part is broken where the reader stands.
-    pub fn at(r: &TextReader<'_>, part: XbmPart) -> ParseError
-        ensures { result ≡ broken part r.now.location }
-    {
-        ParseError {
-            part,
-            place: r.loc(),
-        }
-    }
 }
 
 // The number of a refusal in a part.
@@ -91,10 +79,16 @@ pub fn read_byte_of<F: Fn(u8) -> bool>(
                 Ok(())
             } else {
                 r.pass(b);
-                Err(ParseError::at(r, part))
+                Err(ParseError {
+                    part,
+                    place: r.location,
+                })
             }
         }
-        None => Err(ParseError::at(r, part)),
+        None => Err(ParseError {
+            part,
+            place: r.location,
+        }),
     }
 }
 
@@ -109,7 +103,10 @@ pub fn read_optional_whitespace(r: &mut TextReader<'_>)
 pub fn read_byte(r: &mut TextReader<'_>, part: XbmPart) -> Result<u8, ParseError>
     ensures { Reads (any_byte (number part)) r.old r.new result }
 {
-    r.next().ok_or(ParseError::at(r, part))
+    r.next().ok_or(ParseError {
+        part,
+        place: r.location,
+    })
 }
 
 // Read a mixture of ' ' and '\t'. At least one character must be read.
@@ -153,7 +150,10 @@ pub fn read_until_whitespace<'a>(
             break;
         }
         if r.taken_since(start).len() >= limit {
-            return Err(ParseError::at(r, part));
+            return Err(ParseError {
+                part,
+                place: r.location,
+            });
         }
         r.pass(b);
     }

@@ -71,9 +71,15 @@ fn read_element(r: &mut TextReader<'_>, part: XbmPart) -> Result<(), ParseError>
         Some(b'u') => read_unsigned_char(r, part),
         Some(b) => {
             r.pass(b);
-            Err(ParseError::at(r, part))
+            Err(ParseError {
+                part,
+                place: r.location,
+            })
         }
-        None => Err(ParseError::at(r, part)),
+        None => Err(ParseError {
+            part,
+            place: r.location,
+        }),
     }
 }
 

@@ -40,6 +40,9 @@ pub fn read_width_symbol(r: &mut TextReader<'_>, name: &mut [u8]) -> Result<usiz
     name[..taken.len()].copy_from_slice(taken);
     match symbol?.strip_suffix(b"_width") {
         Some(front) => Ok(front.len()),
-        None => Err(ParseError::at(r, XbmPart::Width)),
+        None => Err(ParseError {
+            part: XbmPart::Width,
+            place: r.location,
+        }),
     }
 }

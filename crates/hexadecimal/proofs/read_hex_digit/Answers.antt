@@ -1,11 +1,13 @@
 -- What the search leaves of `read_hex_digit`.
 use Rattle.std.proofs.Common.{rules}
-use Rattle.lexical.proofs.Laws.{refused-as}
 use Rattle.hexadecimal.proofs.Hex.{digit_laws}
 use Rattle.hexadecimal.proofs.read_hex_digit.Goals as goal
 
-pub returns-in_err-b : goal.returns-in_err-b
-returns-in_err-b c = search (digit_laws, c.in_err-b.was, refused-as c.from_residual.ensures.1, rules)
+pub returns-in_default : goal.returns-in_default
+returns-in_default c = search (digit_laws, rules)
 
-pub returns : goal.returns
-returns c = search (digit_laws, c.in_ok-b.was, rules)
+pub returns-in-Some-hex_value : goal.returns-in-Some-hex_value
+returns-in-Some-hex_value c = search (digit_laws, rules)
+
+pub returns-in-None : goal.returns-in-None
+returns-in-None c = search (digit_laws, rules)
