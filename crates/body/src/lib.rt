@@ -40,7 +40,7 @@ pub fn read_data_byte(r: &mut TextReader<'_>, first: bool) -> Result<u8, ParseEr
 {
     let mut at = *r;
     let answer = read_item(&mut at, first);
-    *r = at;
+    r.location = at.location;
     answer
 }
 

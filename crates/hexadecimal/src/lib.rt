@@ -34,6 +34,7 @@ pub fn hex_values() -> [u8; 256]
 }
 
 // Read a single hex digit, either upper or lower case. The reader passes it in each branch, so that no newline is looked for past a digit.
+#[inline(always)]
 pub fn read_hex_digit(r: &mut TextReader<'_>, part: XbmPart) -> Result<u8, ParseError>
     ensures { Reads (hex_digit (number part)) r.old r.new result }
 {

@@ -68,6 +68,6 @@ pub fn skip_non_define_lines(r: &mut TextReader<'_>, part: XbmPart) -> Result<()
 {
     let mut at = *r;
     let answer = skip_lines(&mut at, part);
-    *r = at;
+    r.location = at.location;
     answer
 }

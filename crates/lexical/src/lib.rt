@@ -64,6 +64,7 @@ fn skip_while<F: Fn(u8) -> bool>(r: &mut TextReader<'_>, class: F)
 }
 
 // One byte of a class. The reader passes it in each branch, so that no newline is looked for where the class has none.
+#[inline(always)]
 pub fn read_byte_of<F: Fn(u8) -> bool>(
     r: &mut TextReader<'_>,
     class: F,

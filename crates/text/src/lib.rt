@@ -38,6 +38,7 @@ pub struct TextLocation {
 }
 
 // A place at the start of a line.
+#[inline(always)]
 fn at_line_start(byte: u64, line: u64) -> TextLocation
     ensures { result ≡ at_line_start byte line }
 {
@@ -50,6 +51,7 @@ fn at_line_start(byte: u64, line: u64) -> TextLocation
 }
 
 // The place where a text starts.
+#[inline(always)]
 pub fn beginning() -> TextLocation
     ensures { result ≡ start }
 {
@@ -117,6 +119,7 @@ pub struct TextReader<'a> {
 
 impl<'a> TextReader<'a> {
     // Initialize a TextReader.
+    #[inline(always)]
     pub fn new(text: &'a [u8]) -> TextReader<'a>
         ensures { (result.text ≡ text.entry) × (result.location ≡ start) }
     {
@@ -179,6 +182,7 @@ impl<'a> TextReader<'a> {
     }
 
     // Peek at the next byte. At the end, nothing.
+    #[inline(always)]
     pub fn peek(&self) -> Option<u8>
         ensures { result ≡ next_of self.now }
     {
@@ -203,6 +207,7 @@ impl<'a> TextReader<'a> {
     }
 
     // Past the byte b, which was looked at.
+    #[inline(always)]
     pub fn pass(&mut self, b: u8)
         ensures { self.new ≡ passed b self.old }
     {
