@@ -23,7 +23,7 @@ fn read_separator(r: &mut TextReader<'_>) -> Result<(), ParseError>
     read_byte_of(r, |b| b == b',', XbmPart::Data)
 }
 
-// One data byte. No separator stands before the first of a picture, whose reading is the same else: a closure for it would be no plainer.
+// One data byte. Before the first of a picture stands no separator; a closure in place of `first` would be no plainer.
 fn read_item(r: &mut TextReader<'_>, first: bool) -> Result<u8, ParseError>
     ensures { Reads (item first) r.old r.new result }
 {
@@ -34,7 +34,7 @@ fn read_item(r: &mut TextReader<'_>, first: bool) -> Result<u8, ParseError>
     read_hex_byte(r, XbmPart::Data)
 }
 
-// One data byte. A copy of the reader is moved and then stored: so its numbers need not be stored at each step.
+// One data byte. For speed a copy moves, and its place is stored back.
 pub fn read_data_byte(r: &mut TextReader<'_>, first: bool) -> Result<u8, ParseError>
     ensures { Reads (item first) r.old r.new result }
 {

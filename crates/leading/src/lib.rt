@@ -62,7 +62,7 @@ fn skip_lines(r: &mut TextReader<'_>, part: XbmPart) -> Result<(), ParseError>
     })
 }
 
-// Skip whole lines, up to the first that begins with `#`. For speed a copy moves, and is stored back.
+// Skip whole lines, up to the first that begins with `#`. For speed a copy moves, and its place is stored back.
 pub fn skip_non_define_lines(r: &mut TextReader<'_>, part: XbmPart) -> Result<(), ParseError>
     ensures { Reads (leading (number part) true) r.old r.new result }
 {

@@ -17,7 +17,6 @@ use Rattle.text.specs.TextReader.{next_of, moved_to, passed, since}
 use Rattle.text.specs.Leaf.{run}
 use Rattle.text.proofs.Laws.{next-at}
 use Rattle.text.proofs.Reading.{run_on, run-stay, run-halt, run_end}
-use Rattle.lexical.specs.declared.ParseError.{ParseError}
 use Rattle.lexical.specs.declared.XbmPart.{XbmPart}
 use Rattle.lexical.specs.Lexical.{number, broken}
 use Rattle.lexical.specs.Token.{up_to, token}

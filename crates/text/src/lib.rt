@@ -117,6 +117,7 @@ pub struct TextReader<'a> {
     pub location: TextLocation,
 }
 
+// Hints on inlining, here and where a byte is read, are for speed: without them a data byte takes a tenth more instructions.
 impl<'a> TextReader<'a> {
     // Initialize a TextReader.
     #[inline(always)]
