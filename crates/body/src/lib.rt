@@ -87,7 +87,7 @@ pub fn read_trailer(r: &mut TextReader<'_>) -> Result<(), ParseError>
     read_end(r)
 }
 
-// How many data bytes a picture has: rows start at whole bytes.
+// How many data bytes a picture has: rows start at whole bytes. The sides are two numbers: a struct of them would be made and taken apart at once.
 pub fn data_size(width: u32, height: u32) -> u64
     ensures { result ≡ bytes_of width height }
 {

@@ -41,7 +41,7 @@ fn parse_side(digits: &[u8], part: XbmPart, zero: XbmDecodeError) -> Result<u32,
     }
 }
 
-// What follows the height line: `#` opens the hotspot, `s` the array line.
+// What follows the height line: `#` opens the hotspot, `s` the array line. The sides stand apart until the header is whole.
 fn read_rest(
     r: &mut TextReader<'_>,
     name: &[u8],

@@ -13,7 +13,8 @@ pub struct Named<'n> {
     pub rest: &'n [u8],
 }
 
-// Reads the header into the buffer; answers the length of the name at its start, 0 if the header is refused.
+// Reads the header into the buffer; answers the length of the name at its start, 0 if the header is refused. A length, since no answer
+// borrows a buffer that is spoken of afterwards.
 pub fn store_name(text: &[u8], name: &mut [u8]) -> usize
     ensures { Stored text.now name.old name.new result }
 {

@@ -80,7 +80,7 @@ fn next_data(r: &mut TextReader<'_>, first: bool, table: &[u8; 256]) -> Result<u
 }
 
 // Fills the whole rows of `width` cells that the buffer has, as far as the picture goes. Eight cells are unpacked apart from fewer: with
-// one call for both it takes a fifth more instructions.
+// one call for both it takes a fifth more instructions. The sides are two numbers: a struct of them would be taken apart at once.
 pub fn read_rows(
     mut r: TextReader<'_>,
     width: u32,

@@ -58,7 +58,7 @@ pub fn beginning() -> TextLocation
     at_line_start(0, 1)
 }
 
-// What is told where there is no place to tell: zeros.
+// What is told to C where there is no place to tell: zeros, since it takes numbers alone.
 pub fn no_place() -> TextLocation
     ensures { result ≡ nowhere }
 {

@@ -1,4 +1,5 @@
-// Rewrites the mask on standard input: reads, calls the rewriting, writes. If a read fails, nothing is written.
+// Rewrites the mask on standard input: reads, calls the rewriting, writes. If a read fails, nothing is written. As xbm_list, but for its
+// call, a size and its name: a function for both would take all three.
 #![tactic(auto)]
 
 use input::read_input;
