@@ -7,12 +7,12 @@ ghost use Rattle.body.specs.Data.{item, brace, closing, trailer, bytes_of};
 ghost use Rattle.body.specs.Code.{separator, ended};
 
 use hexadecimal::read_hex_byte;
-use lexical::{ParseError, XbmPart, read_byte_of, read_fixed_string, read_optional_whitespace};
+use lexical::{XbmPart, read_byte_of, read_fixed_string, read_optional_whitespace};
 use text::TextReader;
 
 // What stands between two data bytes: a comma after loose space. Mostly the comma stands there at once; without that first try a data
 // byte takes a tenth more instructions.
-fn read_separator(r: &mut TextReader<'_>) -> Result<(), ParseError>
+fn read_separator(r: &mut TextReader<'_>) -> Result<(), XbmPart>
     ensures { Reads separator r.old r.new result }
 {
     if r.peek() == Some(b',') {
@@ -24,7 +24,7 @@ fn read_separator(r: &mut TextReader<'_>) -> Result<(), ParseError>
 }
 
 // One data byte. Before the first of a picture stands no separator; a closure in place of `first` would be no plainer.
-fn read_item(r: &mut TextReader<'_>, first: bool) -> Result<u8, ParseError>
+pub fn read_data_byte(r: &mut TextReader<'_>, first: bool) -> Result<u8, XbmPart>
     ensures { Reads (item first) r.old r.new result }
 {
     if !first {
@@ -34,18 +34,8 @@ fn read_item(r: &mut TextReader<'_>, first: bool) -> Result<u8, ParseError>
     read_hex_byte(r, XbmPart::Data)
 }
 
-// One data byte. For speed a copy moves, and its place is stored back.
-pub fn read_data_byte(r: &mut TextReader<'_>, first: bool) -> Result<u8, ParseError>
-    ensures { Reads (item first) r.old r.new result }
-{
-    let mut at = *r;
-    let answer = read_item(&mut at, first);
-    r.location = at.location;
-    answer
-}
-
 // One comma at most, and `}`.
-fn read_brace(r: &mut TextReader<'_>) -> Result<(), ParseError>
+fn read_brace(r: &mut TextReader<'_>) -> Result<(), XbmPart>
     ensures { Reads brace r.old r.new result }
 {
     if r.peek() == Some(b',') {
@@ -56,20 +46,17 @@ fn read_brace(r: &mut TextReader<'_>) -> Result<(), ParseError>
 }
 
 // The end of the text.
-fn read_end(r: &mut TextReader<'_>) -> Result<(), ParseError>
+fn read_end(r: &mut TextReader<'_>) -> Result<(), XbmPart>
     ensures { Reads ended r.old r.new result }
 {
     match r.next() {
-        Some(_) => Err(ParseError {
-            part: XbmPart::Trailing,
-            place: r.location,
-        }),
+        Some(_) => Err(XbmPart::Trailing),
         None => Ok(()),
     }
 }
 
 // What follows the last data byte, up to `;`.
-fn read_closing(r: &mut TextReader<'_>) -> Result<(), ParseError>
+fn read_closing(r: &mut TextReader<'_>) -> Result<(), XbmPart>
     ensures { Reads closing r.old r.new result }
 {
     read_optional_whitespace(r);
@@ -79,7 +66,7 @@ fn read_closing(r: &mut TextReader<'_>) -> Result<(), ParseError>
 }
 
 // Read optional comma, followed by final `};`, then loose space and the end.
-pub fn read_trailer(r: &mut TextReader<'_>) -> Result<(), ParseError>
+pub fn read_trailer(r: &mut TextReader<'_>) -> Result<(), XbmPart>
     ensures { Reads trailer r.old r.new result }
 {
     read_closing(r)?;
@@ -87,7 +74,8 @@ pub fn read_trailer(r: &mut TextReader<'_>) -> Result<(), ParseError>
     read_end(r)
 }
 
-// How many data bytes a picture has: rows start at whole bytes. The sides are two numbers: a struct of them would be made and taken apart at once.
+// How many data bytes a picture has: rows start at whole bytes. The sides are two numbers: a struct of them would be made and taken
+// apart at once.
 pub fn data_size(width: u32, height: u32) -> u64
     ensures { result ≡ bytes_of width height }
 {

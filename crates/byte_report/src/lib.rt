@@ -28,16 +28,16 @@ pub fn tell(
     decoder: XbmStreamDecoder,
     report: &mut [u64; 10],
 ) -> u32
-    ensures { (result ≡ next_number (told_next answer)) × (report.new ≡ next_report (told_next answer) decoder) }
+    ensures { (result ≡ next_number (told_next answer decoder.location)) × (report.new ≡ next_report (told_next answer decoder.location) decoder) }
 {
     match answer {
         Ok(byte) => {
             *report = report_of(decoder.location, byte.map_or(256, u64::from));
             0
         }
-        Err(StreamError::Parse(e)) => {
-            *report = report_of(e.place, 0);
-            part_number(e.part)
+        Err(StreamError::Parse(part)) => {
+            *report = report_of(decoder.location, 0);
+            part_number(part)
         }
         Err(StreamError::Foreign) => {
             *report = report_of(no_place(), 0);

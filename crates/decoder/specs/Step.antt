@@ -52,15 +52,15 @@ abbrev pub byte_given : Given ℕ → Option ℕ
 byte_given (Some b) = some b
 byte_given None = none
 
--- an answer of the code: the byte, none left, or the refusal's number and place
-abbrev pub told_next : Answer (Given ℕ) StreamError → Outcome (Option ℕ)
-told_next (Ok b) = accepted (byte_given b)
-told_next (Err (Parse e)) = refused (number e.part) e.place
-told_next (Err Foreign) = unplaced 9
+-- an answer of the code, where the decoder then stands: the byte, none left, or the refusal's number and place
+abbrev pub told_next : Answer (Given ℕ) StreamError → TextLocation → Outcome (Option ℕ)
+told_next (Ok b) e = accepted (byte_given b)
+told_next (Err (Parse part)) e = refused (number part) e
+told_next (Err Foreign) e = unplaced 9
 
 -- an answer, with the decoder after it
 abbrev pub told_call : Answer (Given ℕ) StreamError → XbmStreamDecoder → Step
-told_call a d = record { answer = told_next a; decoder = d }
+told_call a d = record { answer = told_next a d.location; decoder = d }
 
 abbrev pub told_step : Stepped → Step
 told_step r = told_call r.answer r.decoder

@@ -6,7 +6,7 @@ ghost use Rattle.decoder.specs.declared.StreamError.TheVariants.{Parse};
 ghost use Rattle.decoder.specs.Step.{foreign, more, told_call, told_step, step_of};
 
 use body::{data_size, read_data_byte, read_trailer};
-use lexical::ParseError;
+use lexical::XbmPart;
 use text::{TextLocation, TextReader};
 
 // XBM stream decoder: the sides, how many data bytes were asked for, and the place in the text.
@@ -19,18 +19,18 @@ pub struct XbmStreamDecoder {
     pub location: TextLocation,
 }
 
-// What refuses a call: a rule broken at a place, or a decoder with numbers that no header of this text gave.
+// What refuses a call: a rule that is broken where the decoder then stands, or a decoder with numbers that no header of this text gave.
 #[derive(Clone, Copy, Debug, PartialEq, Eq)]
 pub enum StreamError {
-    Parse(ParseError),
+    Parse(XbmPart),
     Foreign,
 }
 
-impl From<ParseError> for StreamError {
+impl From<XbmPart> for StreamError {
     ghost from_gives = { λ x e. e ≡ Parse x };
 
-    fn from(e: ParseError) -> StreamError {
-        StreamError::Parse(e)
+    fn from(part: XbmPart) -> StreamError {
+        StreamError::Parse(part)
     }
 }
 

@@ -2,26 +2,41 @@
 #![tactic(auto)]
 
 ghost use Rattle.std.specs.Prelude.{◌≡◌};
-ghost use Rattle.error.specs.Error.{integer_number, error_number, parse_of, refusal_of};
+ghost use Rattle.error.specs.Error.{integer_number, error_number, located, refusal_of};
 
 use integer::{Fault, fault_number};
-use lexical::{ParseError, XbmPart, part_number};
+use lexical::{XbmPart, part_number};
 use text::TextLocation;
 
-// Error that can occur while parsing an XBM file.
+// Error that can occur while parsing an XBM file. A reader stands where it refuses, so its error holds no place, `()`; what a caller
+// is told holds it.
 #[derive(Clone, Copy, Debug, PartialEq, Eq)]
-pub enum XbmDecodeError {
-    Parse(XbmPart, TextLocation),
+pub enum XbmDecodeError<P> {
+    Parse(XbmPart, P),
     DecodeInteger(XbmPart, Fault),
     ZeroWidth,
     ZeroHeight,
 }
 
-impl From<ParseError> for XbmDecodeError {
-    ghost from_gives = { λ e r. r ≡ parse_of e };
+impl From<XbmPart> for XbmDecodeError<()> {
+    ghost from_gives = { λ part r. r ≡ Parse part tt };
 
-    fn from(e: ParseError) -> XbmDecodeError {
-        XbmDecodeError::Parse(e.part, e.place)
+    fn from(part: XbmPart) -> XbmDecodeError<()> {
+        XbmDecodeError::Parse(part, ())
+    }
+}
+
+impl XbmDecodeError<()> {
+    // The same with a place, where a rule is broken.
+    pub fn at(self, place: TextLocation) -> XbmDecodeError<TextLocation>
+        ensures { result ≡ located place self.entry }
+    {
+        match self {
+            XbmDecodeError::Parse(part, ()) => XbmDecodeError::Parse(part, place),
+            XbmDecodeError::DecodeInteger(part, fault) => XbmDecodeError::DecodeInteger(part, fault),
+            XbmDecodeError::ZeroWidth => XbmDecodeError::ZeroWidth,
+            XbmDecodeError::ZeroHeight => XbmDecodeError::ZeroHeight,
+        }
     }
 }
 
@@ -40,7 +55,7 @@ pub fn integer_number(part: XbmPart, fault: Fault) -> u32
 }
 
 // The number of an error.
-fn error_number(e: XbmDecodeError) -> u32
+fn error_number(e: XbmDecodeError<TextLocation>) -> u32
     ensures { result ≡ error_number e }
 {
     match e {
@@ -51,10 +66,10 @@ fn error_number(e: XbmDecodeError) -> u32
     }
 }
 
-impl From<XbmDecodeError> for Refusal {
+impl From<XbmDecodeError<TextLocation>> for Refusal {
     ghost from_gives = { λ e r. r ≡ refusal_of e };
 
-    fn from(e: XbmDecodeError) -> Refusal {
+    fn from(e: XbmDecodeError<TextLocation>) -> Refusal {
         let place = match e {
             XbmDecodeError::Parse(_, place) => Some(place),
             _ => None,

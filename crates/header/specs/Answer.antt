@@ -28,23 +28,23 @@ hot_of (Some s) = some s
 abbrev pub head_of : List ℕ → XbmHeaderData → Head
 head_of name d = record { name = name; width = d.width; height = d.height; hot = hot_of d.hotspot }
 
-abbrev pub told_header : List ℕ → Answer (XbmHeaderData × TextLocation) XbmDecodeError → Outcome (Ended Head)
+abbrev pub told_header : List ℕ → Answer (XbmHeaderData × TextLocation) (XbmDecodeError TextLocation) → Outcome (Ended Head)
 told_header name (Ok r) = accepted (ending_at (head_of name r.0) r.1)
 told_header name (Err e) = told_error e
 
 -- the same of an answer that stands before its place
-abbrev pub headed : List ℕ → Answer XbmHeaderData XbmDecodeError → Answer Head XbmDecodeError
+abbrev pub headed : List ℕ → Answer XbmHeaderData (XbmDecodeError (Unit {0})) → Answer Head (XbmDecodeError (Unit {0}))
 headed name (Ok d) = Ok (head_of name d)
 headed name (Err e) = Err e
 
 -- ---- the header's parts, as the code reads them
 
 -- a side of a token: a fault of its part, a zero's own error, or the value
-abbrev pub side_in : XbmPart → XbmDecodeError → Answer ℕ Fault → Answer ℕ XbmDecodeError
+abbrev pub side_in : XbmPart → XbmDecodeError (Unit {0}) → Answer ℕ Fault → Answer ℕ (XbmDecodeError (Unit {0}))
 side_in part zero (Ok n) = pick (eqb n 0) (Err zero) (Ok n)
 side_in part zero (Err f) = Err (DecodeInteger part f)
 
-abbrev pub side_of : XbmPart → XbmDecodeError → List ℕ → Answer ℕ XbmDecodeError
+abbrev pub side_of : XbmPart → XbmDecodeError (Unit {0}) → List ℕ → Answer ℕ (XbmDecodeError (Unit {0}))
 side_of part zero w = side_in part zero (parse_u32 w)
 
 -- what follows the height line; all that follows the width's symbol

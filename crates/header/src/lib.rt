@@ -8,7 +8,7 @@ ghost use Rattle.header.specs.Answer.{side_of, rest_of, sides_of, headed, Headed
 use error::XbmDecodeError;
 use hotspot::read_hotspot;
 use integer::parse_u32;
-use lexical::{ParseError, XbmPart};
+use lexical::XbmPart;
 use lines::{read_array_line, read_define_line, read_value};
 use symbol::read_width_symbol;
 use text::{TextLocation, TextReader};
@@ -25,13 +25,13 @@ pub struct XbmHeaderData {
 // 0 if the header is refused.
 #[derive(Clone, Copy, Debug, PartialEq, Eq)]
 pub struct HeaderAnswer {
-    pub header: Result<(XbmHeaderData, TextLocation), XbmDecodeError>,
+    pub header: Result<(XbmHeaderData, TextLocation), XbmDecodeError<TextLocation>>,
     // Its bytes stand at the start of the lent buffer, which no answer borrows.
     pub name: usize,
 }
 
 // A side's token: an integer, and not zero.
-fn parse_side(digits: &[u8], part: XbmPart, zero: XbmDecodeError) -> Result<u32, XbmDecodeError>
+fn parse_side(digits: &[u8], part: XbmPart, zero: XbmDecodeError<()>) -> Result<u32, XbmDecodeError<()>>
     ensures { result ≡ side_of part zero digits.now }
 {
     match parse_u32(digits) {
@@ -47,25 +47,16 @@ fn read_rest(
     name: &[u8],
     width: u32,
     height: u32,
-) -> Result<XbmHeaderData, XbmDecodeError>
+) -> Result<XbmHeaderData, XbmDecodeError<()>>
     ensures { Decodes (rest_of name.now width height) r.old r.new (headed name.now result) }
 {
     let hotspot = match r.peek() {
         Some(b'#') => Some(read_hotspot(r, name)?),
         Some(b's') => None,
-        Some(b) => {
-            r.pass(b);
-            return Err(ParseError {
-                part: XbmPart::Array,
-                place: r.location,
-            }
-            .into());
+        _ => {
+            r.next();
+            return Err(XbmPart::Array.into());
         }
-        None => return Err(ParseError {
-            part: XbmPart::Array,
-            place: r.location,
-        }
-        .into()),
     };
     read_array_line(r, name, XbmPart::Array)?;
     Ok(XbmHeaderData {
@@ -76,7 +67,7 @@ fn read_rest(
 }
 
 // What follows the width's symbol.
-fn read_sides(r: &mut TextReader<'_>, name: &[u8]) -> Result<XbmHeaderData, XbmDecodeError>
+fn read_sides(r: &mut TextReader<'_>, name: &[u8]) -> Result<XbmHeaderData, XbmDecodeError<()>>
     ensures { Decodes (sides_of name.now) r.old r.new (headed name.now result) }
 {
     let digits = read_value(r, XbmPart::Width)?;
@@ -98,12 +89,12 @@ pub fn read_xbm_header(text: &[u8], name: &mut [u8]) -> HeaderAnswer
                 name: n,
             },
             Err(e) => HeaderAnswer {
-                header: Err(e),
+                header: Err(e.at(r.loc())),
                 name: 0,
             },
         },
-        Err(e) => HeaderAnswer {
-            header: Err(e.into()),
+        Err(part) => HeaderAnswer {
+            header: Err(XbmDecodeError::Parse(part, r.loc())),
             name: 0,
         },
     }

@@ -7,7 +7,7 @@ ghost use Rattle.lexical.specs.Reads.{Reads};
 ghost use Rattle.hexadecimal.specs.Hex.{value_of, hex_table, is_mark, hex_digit, hex_start, hex_byte};
 
 use hex_table::HEX;
-use lexical::{ParseError, XbmPart, read_byte_of, read_fixed_string};
+use lexical::{XbmPart, read_byte_of, read_fixed_string};
 use text::TextReader;
 
 mod hex_table;
@@ -25,38 +25,34 @@ pub fn hex_value(b: u8) -> Option<u8>
     }
 }
 
-// The same of all bytes, as numbers and not as options: so one look-up tells both. Call it once, above a loop, and lend it down.
-#[tactic(auto, unfolding(crate::specs::Hex::hex_table, crate::specs::Hex::hex_of))]
-pub fn hex_values() -> [u8; 256]
-    ensures { result ≡ hex_table }
-{
-    HEX
+// The same of all bytes, by a table: call `new` once, above a loop, and lend it down. It holds numbers and not options, 16 for no digit:
+// so one look-up tells both.
+#[derive(Clone, Copy, Debug, PartialEq, Eq)]
+pub struct HexTable {
+    values: [u8; 256],
+    ghost is_table: { values ≡ hex_table },
 }
 
-// Read a single hex digit, either upper or lower case. The reader passes it in each branch, so that no newline is looked for past a digit.
-#[inline(always)]
-pub fn read_hex_digit(r: &mut TextReader<'_>, part: XbmPart) -> Result<u8, ParseError>
+impl HexTable {
+    #[tactic(auto, unfolding(crate::specs::Hex::hex_table, crate::specs::Hex::hex_of))]
+    pub fn new() -> HexTable {
+        HexTable { values: HEX }
+    }
+
+    // A digit's value.
+    pub fn value_of(&self, b: u8) -> Option<u8>
+        ensures { result ≡ value_of b }
+    {
+        let v = self.values[b as usize];
+        if v < 16 { Some(v) } else { None }
+    }
+}
+
+// Read a single hex digit, either upper or lower case.
+pub fn read_hex_digit(r: &mut TextReader<'_>, part: XbmPart) -> Result<u8, XbmPart>
     ensures { Reads (hex_digit (number part)) r.old r.new result }
 {
-    let Some(b) = r.peek() else {
-        return Err(ParseError {
-            part,
-            place: r.location,
-        });
-    };
-    match hex_value(b) {
-        Some(v) => {
-            r.pass(b);
-            Ok(v)
-        }
-        None => {
-            r.pass(b);
-            Err(ParseError {
-                part,
-                place: r.location,
-            })
-        }
-    }
+    r.next().and_then(hex_value).ok_or(part)
 }
 
 // `x` or `X`.
@@ -68,7 +64,7 @@ fn is_mark(b: u8) -> bool
 }
 
 // `0` and then `x` or `X`.
-fn read_hex_start(r: &mut TextReader<'_>, part: XbmPart) -> Result<(), ParseError>
+fn read_hex_start(r: &mut TextReader<'_>, part: XbmPart) -> Result<(), XbmPart>
     ensures { Reads (hex_start (number part)) r.old r.new result }
 {
     read_fixed_string(r, b"0", part)?;
@@ -76,7 +72,7 @@ fn read_hex_start(r: &mut TextReader<'_>, part: XbmPart) -> Result<(), ParseErro
 }
 
 // Read a hex-encoded byte (e.g.: 0xA1).
-pub fn read_hex_byte(r: &mut TextReader<'_>, part: XbmPart) -> Result<u8, ParseError>
+pub fn read_hex_byte(r: &mut TextReader<'_>, part: XbmPart) -> Result<u8, XbmPart>
     ensures { Reads (hex_byte (number part)) r.old r.new result }
 {
     read_hex_start(r, part)?;

@@ -17,7 +17,7 @@ fn read_coordinate_line(
     name: &[u8],
     suffix: &[u8],
     part: XbmPart,
-) -> Result<i32, XbmDecodeError>
+) -> Result<i32, XbmDecodeError<()>>
     ensures { Decodes (coordinate_line (number part) name.now suffix.now) r.old r.new result }
 {
     let digits = read_define_line(r, name, suffix, part)?;
@@ -25,7 +25,7 @@ fn read_coordinate_line(
 }
 
 // The hotspot's two lines.
-pub fn read_hotspot(r: &mut TextReader<'_>, name: &[u8]) -> Result<(i32, i32), XbmDecodeError>
+pub fn read_hotspot(r: &mut TextReader<'_>, name: &[u8]) -> Result<(i32, i32), XbmDecodeError<()>>
     ensures { Decodes (spot name.now) r.old r.new result }
 {
     let x = read_coordinate_line(r, name, b"_x_hot", XbmPart::HotspotX)?;

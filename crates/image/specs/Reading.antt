@@ -7,15 +7,13 @@ use Rattle.text.specs.Leaf.{give}
 use Rattle.text.specs.Outcome.{Outcome, accepted, outcome}
 use Rattle.lexical.specs.Token.{overlay}
 use Rattle.error.specs.declared.Refusal.{Refusal}
-use Rattle.error.specs.Error.{parse_of, refusal_of, told_refusal}
+use Rattle.error.specs.Error.{refusal_of, told_refusal}
 use Rattle.symbol.specs.Symbol.{stored}
 use Rattle.header.specs.declared.XbmHeaderData.{XbmHeaderData}
 use Rattle.header.specs.Header.{Head, header}
 use Rattle.header.specs.Answer.{head_of}
 use Rattle.body.specs.Data.{log_of}
 use Rattle.cells.specs.Cells.{painted, count}
-use Rattle.rows.specs.declared.RowsError.{RowsError}
-use Rattle.rows.specs.declared.RowsError.TheVariants.{Parse, DimensionMismatch as NotTheRows}
 use Rattle.rows.specs.Rows.{whole}
 use Rattle.image.specs.declared.ImageError.{ImageError}
 use Rattle.image.specs.declared.ImageError.TheVariants.{Decode, DimensionMismatch}
@@ -57,11 +55,6 @@ reading text name pixels = record {
 }
 
 -- ---- what the code answers
-
--- what is wrong with the rows, as what is wrong with the picture
-abbrev pub rows_error : RowsError → ImageError
-rows_error (Parse e) = Decode (parse_of e)
-rows_error NotTheRows = DimensionMismatch
 
 abbrev pub image_refusal : ImageError → Refusal
 image_refusal (Decode e) = refusal_of e

@@ -3,7 +3,7 @@
 
 ghost use Rattle.std.specs.Prelude.{◌≡◌};
 ghost use Rattle.image.specs.Limited.{limited_refusal, Bounded, Limited, Within};
-ghost use Rattle.image.specs.Reading.{rows_error, image_refusal, Pictured, Imaged};
+ghost use Rattle.image.specs.Reading.{image_refusal, Pictured, Imaged};
 ghost use Rattle.image.specs.declared.ImageError.TheVariants.{Decode};
 ghost use Rattle.image.specs.declared.LimitedError.TheVariants.{Image};
 
@@ -11,31 +11,20 @@ use error::{Refusal, XbmDecodeError};
 use header::{XbmHeaderData, read_xbm_header};
 use ink::{at_most, cell_count};
 use rows::{RowsError, read_rows};
-use text::TextReader;
+use text::{TextLocation, TextReader};
 
 // A refusal of the decoder, or a pixel buffer whose rows are not the picture's.
 #[derive(Clone, Copy, Debug, PartialEq, Eq)]
 pub enum ImageError {
-    Decode(XbmDecodeError),
+    Decode(XbmDecodeError<TextLocation>),
     DimensionMismatch,
 }
 
-impl From<XbmDecodeError> for ImageError {
+impl From<XbmDecodeError<TextLocation>> for ImageError {
     ghost from_gives = { λ e r. r ≡ Decode e };
 
-    fn from(e: XbmDecodeError) -> ImageError {
+    fn from(e: XbmDecodeError<TextLocation>) -> ImageError {
         ImageError::Decode(e)
-    }
-}
-
-impl From<RowsError> for ImageError {
-    ghost from_gives = { λ e r. r ≡ rows_error e };
-
-    fn from(e: RowsError) -> ImageError {
-        match e {
-            RowsError::Parse(e) => ImageError::Decode(e.into()),
-            RowsError::DimensionMismatch => ImageError::DimensionMismatch,
-        }
     }
 }
 
@@ -101,14 +90,17 @@ pub struct ImageAnswer<E> {
 
 // The rows of an accepted header, as the picture's answer.
 fn read_picture(
-    r: TextReader<'_>,
+    mut r: TextReader<'_>,
     header: XbmHeaderData,
     pixels: &mut [u8],
 ) -> Result<XbmHeaderData, ImageError>
     ensures { Pictured header r.entry.text.now r.entry.location pixels.old pixels.new result }
 {
-    read_rows(r, header.width, header.height, pixels)?;
-    Ok(header)
+    match read_rows(&mut r, header.width, header.height, pixels) {
+        Ok(()) => Ok(header),
+        Err(RowsError::Parse(part)) => Err(XbmDecodeError::Parse(part, r.loc()).into()),
+        Err(RowsError::DimensionMismatch) => Err(ImageError::DimensionMismatch),
+    }
 }
 
 // The pixels of a text, its header first: as `XbmDecoder::new` and then `read_image`. Here and below name and cells stay two parameters:

@@ -1,53 +1,48 @@
 // The lines before the first define line, skipped whole. Only this crate knows how a line's end is found.
 #![tactic(auto)]
 
-ghost use Rattle.std.specs.Prelude.{true, ◌≡◌, ◌+◌, length, drop};
+ghost use Rattle.std.specs.Prelude.{true, ◌≡◌, drop};
 ghost use Rattle.lexical.specs.Lexical.{number, leading};
 ghost use Rattle.lexical.specs.Reads.{Reads};
-ghost use Rattle.leading.specs.Line.{line_of, line_rest};
+ghost use Rattle.leading.specs.Line.{newline_from, line_rest};
 
-use lexical::{ParseError, XbmPart};
+use lexical::XbmPart;
 use text::TextReader;
 
-// The first newline from `from` on, or the end. By index: `position` takes a fifth more instructions.
-fn line_end(text: &[u8], from: usize) -> usize
-    ensures { result ≡ from + length (line_of (drop from text.now)) }
+// The first newline from `from` on. By index: `position` takes a fifth more instructions.
+fn line_end(text: &[u8], from: usize) -> Option<usize>
+    ensures { result ≡ newline_from from (drop from text.now) }
 {
     for i in from..text.len() {
         if text[i] == b'\n' {
-            return i;
+            return Some(i);
         }
     }
-    text.len().max(from)
+    None
 }
 
 // The rest of a line, with its newline.
-fn skip_line(r: &mut TextReader<'_>, part: XbmPart) -> Result<(), ParseError>
+fn skip_line(r: &mut TextReader<'_>, part: XbmPart) -> Result<(), XbmPart>
     ensures { Reads (line_rest (number part)) r.old r.new result }
 {
     if !r.has_left(1) {
-        return Err(ParseError {
-            part,
-            place: r.location,
-        });
+        return Err(part);
     }
     let from = r.loc().byte.0 as usize;
-    let end = line_end(r.text, from);
-    let size = (end - from) as u64;
-    if end < r.text.len() {
-        r.pass_line(size);
-        Ok(())
-    } else {
-        r.pass_along(size);
-        Err(ParseError {
-            part,
-            place: r.location,
-        })
+    match line_end(r.text, from) {
+        Some(end) => {
+            r.pass_line((end - from) as u64);
+            Ok(())
+        }
+        None => {
+            r.pass_along((r.text.len() - from) as u64);
+            Err(part)
+        }
     }
 }
 
-// Whole lines, up to the first that begins with `#`.
-fn skip_lines(r: &mut TextReader<'_>, part: XbmPart) -> Result<(), ParseError>
+// Skip whole lines, up to the first that begins with `#`.
+pub fn skip_non_define_lines(r: &mut TextReader<'_>, part: XbmPart) -> Result<(), XbmPart>
     ensures { Reads (leading (number part) true) r.old r.new result }
 {
     while let Some(b) = r.peek() {
@@ -56,18 +51,5 @@ fn skip_lines(r: &mut TextReader<'_>, part: XbmPart) -> Result<(), ParseError>
         }
         skip_line(r, part)?;
     }
-    Err(ParseError {
-        part,
-        place: r.location,
-    })
-}
-
-// Skip whole lines, up to the first that begins with `#`. For speed a copy moves, and its place is stored back.
-pub fn skip_non_define_lines(r: &mut TextReader<'_>, part: XbmPart) -> Result<(), ParseError>
-    ensures { Reads (leading (number part) true) r.old r.new result }
-{
-    let mut at = *r;
-    let answer = skip_lines(&mut at, part);
-    r.location = at.location;
-    answer
+    Err(part)
 }

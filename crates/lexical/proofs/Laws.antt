@@ -2,7 +2,7 @@
 use Prim.Native.Nat.{ℕ, suc, ◌+◌, ◌*◌, ◌^◌, ◌<◌, ◌≤◌}
 use native.Mathlib.Numerals.{add-one}
 use native.Mathlib.Omega.{arith}
-use mathlib.Core.Path.{◌≡◌, refl, sym, ap, ◌∙◌}
+use mathlib.Core.Path.{◌≡◌, refl, ap, ◌∙◌}
 use mathlib.Core.Option.{Option, none, some}
 use mathlib.Core.List.{List}
 use mathlib.Core.Bool.{Bool, true, false}
@@ -10,18 +10,18 @@ use lib.ListN.{length, drop, get_or, drop_of_length-le}
 use lib.Seq.{drop-cons}
 use Rattle.std.specs.Prelude.{Option as Taken, Some, None, ok_or, Result as Answer, Ok, Err, IsErrAnd}
 use Rattle.std.proofs.lemmas.Result.{err_from_is_err_and}
+use Rattle.text.specs.declared.TextLocation.{TextLocation}
 use Rattle.text.specs.declared.TextReader.{TextReader}
 use Rattle.text.specs.Place.{after, rest}
 use Rattle.text.specs.TextReader.{next_of, moved_to, moved_on, passed}
-use Rattle.text.specs.Reader.{ok, stop, end_of, Reader, ◌>>=◌}
+use Rattle.text.specs.Reader.{Result, ok, then, Reader, ◌>>=◌}
 use Rattle.text.specs.Leaf.{give, one}
 use Rattle.text.proofs.Laws.{next-less, end-onward, reader_passed, reader-moved}
 use Rattle.text.proofs.Reading.{one_ok, one-stop, one_end, run_on, run-stay, run_end}
-use Rattle.lexical.specs.declared.ParseError.{ParseError}
 use Rattle.lexical.specs.declared.XbmPart.{XbmPart}
 use Rattle.lexical.specs.declared.XbmPart.TheVariants.{Width, Height, HotspotX, HotspotY, Array, Data, ArrayEnd, Trailing}
-use Rattle.lexical.specs.Lexical.{number, broken, when, is, any_byte, byte, while, skip, fixed}
-use Rattle.lexical.specs.Reads.{Reads}
+use Rattle.lexical.specs.Lexical.{number, when, is, any_byte, byte, while, skip, fixed}
+use Rattle.lexical.specs.Reads.{Telling, placed, alone, refuse, Gives, Reads}
 
 -- a part's number
 pub number_small : (part : XbmPart) → number part ≤ 8
@@ -38,66 +38,82 @@ number_small Trailing = omega arith
 pub refused-as : {A E : Type 0} {r : Answer A E} {x : E} → IsErrAnd r (λ e. e ≡ x) → r ≡ Err x
 refused-as {A} {E} {r} {x} h = let p = err_from_is_err_and {Q = λ e. e ≡ x} r h in p.1 ∙ ap (λ e. Err e) p.2
 
+-- nothing is read after a refusal
+then-refuse : {A B : Type 0} (w : Telling) (e : TextLocation) (k : A → TextLocation → Result B) → then (refuse w e) k ≡ refuse w e
+then-refuse (placed c) e k = refl
+then-refuse (alone c) e k = refl
+
 -- a reading by what p gives at the reader's place
-module _ {A : Type 0} {p : Reader A} {r₀ r₁ : TextReader} (k : r₁.text ≡ r₀.text) where
-  pub reads-value : {a : A} → ok a r₁.location ≡ p r₀.text.now r₀.location → Reads p r₀ r₁ (Ok a)
-  reads-value e = record { kept = k; answer = e; stands = ap end_of (sym e) }
+module _ {A E : Type 0} {tells : E → Telling} {p : Reader A} {r₀ r₁ : TextReader} (k : r₁.text ≡ r₀.text) where
+  pub reads-value : {a : A} → ok a r₁.location ≡ p r₀.text.now r₀.location → Gives tells p r₀ r₁ (Ok a)
+  reads-value e = record { kept = k; answer = e }
 
-  pub reads-refusal : {x : ParseError} → x.place ≡ r₁.location → stop (number x.part) x.place ≡ p r₀.text.now r₀.location → Reads p r₀ r₁ (Err x)
-  reads-refusal s e = record { kept = k; answer = e; stands = ap end_of (sym e) ∙ s }
+  pub reads-refusal : {x : E} → refuse (tells x) r₁.location ≡ p r₀.text.now r₀.location → Gives tells p r₀ r₁ (Err x)
+  reads-refusal e = record { kept = k; answer = e }
 
--- one reading after another
-module _ {A B : Type 0} (p : Reader A) (f : A → Reader B) {r₀ r₁ : TextReader} {m : Answer A ParseError} (h : Reads p r₀ r₁ m) where
-  pub reads-then : {a : A} {r₂ : TextReader} {z : Answer B ParseError} → m ≡ Ok a → Reads (f a) r₁ r₂ z → Reads (p >>= f) r₀ r₂ z
+-- one reading after another, of which the errors may differ in type
+module _ {A B E E' : Type 0} {tells : E → Telling} {tells' : E' → Telling} (p : Reader A) (f : A → Reader B) {r₀ r₁ : TextReader} {m : Answer A E} (h : Gives tells p r₀ r₁ m) where
+  pub reads-onward : {a : A} {r₂ : TextReader} {z : Answer B E'} → m ≡ Ok a → Gives tells' (f a) r₁ r₂ z → Gives tells' (p >>= f) r₀ r₂ z
   unfolding ◌>>=◌
-  reads-then {a} g k =
+  reads-onward {a} g k =
       let e : ok a r₁.location ≡ p r₀.text.now r₀.location = rw g at h.answer in
       let t = h.kept in
-      record { kept = k.kept ∙ t; answer = rw (← e, ← t) k.answer; stands = rw (← e, ← t) k.stands }
+      record { kept = k.kept ∙ t; answer = rw (← e, ← t) k.answer }
 
-  pub reads-refused : {x : ParseError} {z : Answer B ParseError} → m ≡ Err x → z ≡ Err x → Reads (p >>= f) r₀ r₁ z
+  pub reads-lifted : {x : E} {y : E'} {z : Answer B E'} → m ≡ Err x → z ≡ Err y → tells' y ≡ tells x → Gives tells' (p >>= f) r₀ r₁ z
   unfolding ◌>>=◌
-  reads-refused {x} g k =
-      let e : stop (number x.part) x.place ≡ p r₀.text.now r₀.location = rw g at h.answer in
-      record { kept = h.kept; answer = rw (k, ← e); stands = rw (← e) (ap end_of e ∙ h.stands) }
+  reads-lifted {x} g k t =
+      let e : refuse (tells x) r₁.location ≡ p r₀.text.now r₀.location = rw g at h.answer in
+      record { kept = h.kept; answer = rw (k, t, ← e, then-refuse (tells x) r₁.location (λ a e. f a r₀.text.now e)) }
+
+-- of which they are of one type
+module _ {A B E : Type 0} {tells : E → Telling} (p : Reader A) (f : A → Reader B) {r₀ r₁ : TextReader} {m : Answer A E} (h : Gives tells p r₀ r₁ m) where
+  pub reads-then : {a : A} {r₂ : TextReader} {z : Answer B E} → m ≡ Ok a → Gives tells (f a) r₁ r₂ z → Gives tells (p >>= f) r₀ r₂ z
+  reads-then = reads-onward p f h
+
+  pub reads-refused : {x : E} {z : Answer B E} → m ≡ Err x → z ≡ Err x → Gives tells (p >>= f) r₀ r₁ z
+  reads-refused g k = reads-lifted p f h g k refl
 
 -- after one that is not refused
-pub reads-after : {A B : Type 0} (p : Reader A) (f : A → Reader B) {r₀ r₁ r₂ : TextReader} {a : A} {z : Answer B ParseError} → Reads p r₀ r₁ (Ok a) → Reads (f a) r₁ r₂ z → Reads (p >>= f) r₀ r₂ z
+pub reads-after : {A B E : Type 0} {tells : E → Telling} (p : Reader A) (f : A → Reader B) {r₀ r₁ r₂ : TextReader} {a : A} {z : Answer B E} → Gives tells p r₀ r₁ (Ok a) → Gives tells (f a) r₁ r₂ z → Gives tells (p >>= f) r₀ r₂ z
 reads-after p f h k = reads-then p f h refl k
 
-pub reads-give : {A : Type 0} {r : TextReader} {a v : A} → v ≡ a → Reads (give a) r r (Ok v)
+pub reads-give : {A E : Type 0} {tells : E → Telling} {r : TextReader} {a v : A} → v ≡ a → Gives tells (give a) r r (Ok v)
 unfolding give
-reads-give e = record { kept = refl; answer = rw e; stands = refl }
+reads-give e = record { kept = refl; answer = rw e }
 
 pub ruleset reads_laws = (reads-then, reads-after, reads-refused, reads-give)
 
--- a byte, looked at and then passed
-module _ {A : Type 0} (c : ℕ) (g : ℕ → Option A) {r₀ r₁ : TextReader} {m : Taken ℕ} (e : m ≡ next_of r₀) {b : ℕ} (h : m ≡ Some b) (k : r₁ ≡ moved_to (after b r₀.location) r₀) where
-  pub one-value : {a : A} → g b ≡ some a → Reads (one c g) r₀ r₁ (Ok a)
-  one-value {a} v = reads-value (ap (λ r. r.text) k) (ap (λ (r : TextReader). ok a r.location) k ∙ one_ok c g r₀.text.now r₀.location e h v)
+-- a byte that is taken: r₁ is past it, or at the end where none is
+module _ {A : Type 0} (part : XbmPart) (g : ℕ → Option A) {r₀ r₁ : TextReader} {m : Taken ℕ} (e : m ≡ next_of r₀) where
+  module _ {b : ℕ} (h : m ≡ Some b) (k : r₁ ≡ moved_to (after b r₀.location) r₀) where
+    pub one-value : {a : A} → g b ≡ some a → Reads (one (number part) g) r₀ r₁ (Ok a)
+    one-value {a} v = reads-value (ap (λ r. r.text) k) (ap (λ (r : TextReader). ok a r.location) k ∙ one_ok (number part) g r₀.text.now r₀.location e h v)
 
-  pub one-refusal : {x : ParseError} → number x.part ≡ c → x.place ≡ r₁.location → g b ≡ none → Reads (one c g) r₀ r₁ (Err x)
-  one-refusal n s v =
-      reads-refusal (ap (λ r. r.text) k) s (rw (n, s, ap (λ (r : TextReader). r.location) k) (one-stop c g r₀.text.now r₀.location e h v))
+    pub one-refusal : g b ≡ none → Reads (one (number part) g) r₀ r₁ (Err part)
+    one-refusal v = reads-refusal (ap (λ r. r.text) k) (rw (ap (λ (r : TextReader). r.location) k) (one-stop (number part) g r₀.text.now r₀.location e h v))
 
-pub one-lacks : {A : Type 0} (c : ℕ) (g : ℕ → Option A) {r : TextReader} {m : Taken ℕ} → m ≡ next_of r → m ≡ None → {x : ParseError} → number x.part ≡ c → x.place ≡ r.location → Reads (one c g) r r (Err x)
-one-lacks c g {r} e h n s = reads-refusal refl s (rw (n, s) (one_end c g r.text.now r.location e h))
+  pub one-lacks : m ≡ None → r₁ ≡ r₀ → Reads (one (number part) g) r₀ r₁ (Err part)
+  one-lacks h k = reads-refusal (ap (λ r. r.text) k) (rw (ap (λ (r : TextReader). r.location) k) (one_end (number part) g r₀.text.now r₀.location e h))
+
+-- where nothing is left, taking a byte moves nothing
+pub unmoved : (r₀ : TextReader) {r₁ : TextReader} {m : Taken ℕ} → m ≡ next_of r₀ → r₁ ≡ moved_on r₀ → m ≡ None → r₁ ≡ r₀
+unmoved r₀ e k h = k ∙ ap (λ p. moved_to p r₀) (end-onward r₀.text.now r₀.location e h)
 
 -- a byte of a class
-module _ (class : ℕ → Bool) {r₀ : TextReader} {m : Taken ℕ} (e : m ≡ next_of r₀) where
-  module _ {r₁ : TextReader} {b : ℕ} (h : m ≡ Some b) (l : length r₀.text.now * 1 < 2 ^ 63) (k : r₁ ≡ passed b r₀) {w : Bool} (t : w ≡ class b) where
-    pub byte-yes : (c : ℕ) → w ≡ true → Reads (byte c class) r₀ r₁ (Ok tt)
+module _ (class : ℕ → Bool) {r₀ r₁ : TextReader} {m : Taken ℕ} (e : m ≡ next_of r₀) (l : length r₀.text.now * 1 < 2 ^ 63) (k : r₁ ≡ moved_on r₀) where
+  module _ {b : ℕ} (h : m ≡ Some b) {w : Bool} (t : w ≡ class b) where
+    pub byte-yes : (part : XbmPart) → w ≡ true → Reads (byte (number part) class) r₀ r₁ (Ok tt)
     unfolding byte
-    byte-yes c y = one-value c (λ b. when (class b)) e h (reader_passed r₀ e h l k) (rw (← t, y))
+    byte-yes part y = one-value part (λ b. when (class b)) e h (reader-moved r₀ e h l k) (rw (← t, y))
 
-    pub byte-not : (part : XbmPart) {x : ParseError} → w ≡ false → x ≡ broken part r₁.location → Reads (byte (number part) class) r₀ r₁ (Err x)
+    pub byte-not : (part : XbmPart) → w ≡ false → Reads (byte (number part) class) r₀ r₁ (Err part)
     unfolding byte
-    byte-not part y s =
-        one-refusal (number part) (λ b. when (class b)) e h (reader_passed r₀ e h l k) (ap (λ (x : ParseError). number x.part) s) (ap (λ (x : ParseError). x.place) s) (rw (← t, y))
+    byte-not part y = one-refusal part (λ b. when (class b)) e h (reader-moved r₀ e h l k) (rw (← t, y))
 
-  pub byte-end : (part : XbmPart) {x : ParseError} → m ≡ None → x ≡ broken part r₀.location → Reads (byte (number part) class) r₀ r₀ (Err x)
+  pub byte-end : (part : XbmPart) → m ≡ None → Reads (byte (number part) class) r₀ r₁ (Err part)
   unfolding byte
-  byte-end part h s = one-lacks (number part) (λ b. when (class b)) e h (ap (λ (x : ParseError). number x.part) s) (ap (λ (x : ParseError). x.place) s)
+  byte-end part h = one-lacks part (λ b. when (class b)) e h (unmoved r₀ e k h)
 
 pub ruleset byte_laws = (byte-yes, byte-not, byte-end)
 
@@ -110,14 +126,14 @@ pub leads-begin : {A : Type 0} (p : Reader A) {r : TextReader} → Leads p r p r
 leads-begin p = record { kept = refl; same = refl }
 
 module _ {A : Type 0} {p q : Reader A} {r₀ r : TextReader} (h : Leads p r₀ q r) where
-  pub leads-reads : {r' : TextReader} {m : Answer A ParseError} → Reads q r r' m → Reads p r₀ r' m
-  leads-reads k = record { kept = k.kept ∙ h.kept; answer = k.answer ∙ h.same; stands = ap end_of (sym h.same) ∙ k.stands }
+  pub leads-reads : {E : Type 0} {tells : E → Telling} {r' : TextReader} {m : Answer A E} → Gives tells q r r' m → Gives tells p r₀ r' m
+  leads-reads k = record { kept = k.kept ∙ h.kept; answer = k.answer ∙ h.same }
 
   pub leads-on : {q' : Reader A} {r' : TextReader} → r'.text ≡ r.text → q' r'.text.now r'.location ≡ q r.text.now r.location → Leads p r₀ q' r'
   leads-on k e = record { kept = k ∙ h.kept; same = e ∙ h.same }
 
 -- what q gives is what p gives
-pub reads-as : {A : Type 0} (p q : Reader A) {r₀ r₁ : TextReader} {m : Answer A ParseError} → q r₀.text.now r₀.location ≡ p r₀.text.now r₀.location → Reads q r₀ r₁ m → Reads p r₀ r₁ m
+pub reads-as : {A E : Type 0} {tells : E → Telling} (p q : Reader A) {r₀ r₁ : TextReader} {m : Answer A E} → q r₀.text.now r₀.location ≡ p r₀.text.now r₀.location → Gives tells q r₀ r₁ m → Gives tells p r₀ r₁ m
 reads-as p q e h = leads-reads (record { kept = refl; same = e }) h
 
 -- a reader at which a text goes on is short enough to be passed over
@@ -150,17 +166,15 @@ module _ (class : ℕ → Bool) {r : TextReader} {m : Taken ℕ} (e : m ≡ next
 
 pub ruleset skip_laws = (skip-again, skip_stop, skip-end, leads-reads, leads-begin, remains-less, passed-text)
 
--- any byte, taken
-pub any-taken : (part : XbmPart) (r₀ : TextReader) {r₁ : TextReader} {m : Taken ℕ} {x : ParseError} {z : Answer ℕ ParseError} → m ≡ next_of r₀ → length r₀.text.now * 1 < 2 ^ 63 → r₁ ≡ moved_on r₀
-    → x ≡ broken part r₁.location → z ≡ ok_or m x → Reads (any_byte (number part)) r₀ r₁ z
+-- any byte
+pub any-taken : (part : XbmPart) (r₀ : TextReader) {r₁ : TextReader} {m : Taken ℕ} {z : Answer ℕ XbmPart} → m ≡ next_of r₀ → length r₀.text.now * 1 < 2 ^ 63 → r₁ ≡ moved_on r₀ → z ≡ ok_or m part
+    → Reads (any_byte (number part)) r₀ r₁ z
 unfolding any_byte
-any-taken part r₀ {r₁ = r₁} {m = m} {x = x} {z = z} e l k s t = go m refl
+any-taken part r₀ {r₁ = r₁} {m = m} {z = z} e l k t = go m refl
   where
     go : (n : Taken ℕ) → m ≡ n → Reads (one (number part) (λ b. some b)) r₀ r₁ z
-    go None h =
-        let w : r₁ ≡ r₀ = k ∙ ap (λ p. moved_to p r₀) (end-onward r₀.text.now r₀.location e h) in
-        rw (t, h, w) (one-lacks (number part) (λ b. some b) e h (ap (λ (x : ParseError). number x.part) s) (ap (λ (x : ParseError). x.place) s ∙ ap (λ (r : TextReader). r.location) w))
-    go (Some b) h = rw (t, h) (one-value (number part) (λ b. some b) e h (reader-moved r₀ e h l k) refl)
+    go None h = rw (t, h) (one-lacks part (λ b. some b) e h (unmoved r₀ e k h))
+    go (Some b) h = rw (t, h) (one-value part (λ b. some b) e h (reader-moved r₀ e h l k) refl)
 
 -- bytes that are read one after another: those of w from the nth on are left
 module _ (c : ℕ) (w : List ℕ) (n : ℕ) {r₀ r : TextReader} (i : Leads (fixed c w) r₀ (fixed c (drop n w)) r) where
@@ -168,14 +182,14 @@ module _ (c : ℕ) (w : List ℕ) (n : ℕ) {r₀ r : TextReader} (i : Leads (fi
   unfolding fixed
   fixed-done l = leads-reads i (rw (drop_of_length-le w l) (reads-give refl))
 
-  module _ {r₁ : TextReader} {m : Answer (Unit {0}) ParseError} (e : Reads (byte c (is (get_or w n 0))) r r₁ m) (l : n < length w) where
+  module _ {r₁ : TextReader} {m : Answer (Unit {0}) XbmPart} (e : Reads (byte c (is (get_or w n 0))) r r₁ m) (l : n < length w) where
     pub fixed-again : m ≡ Ok tt → Leads (fixed c w) r₀ (fixed c (drop (n + 1) w)) r₁
     unfolding fixed ◌>>=◌
     fixed-again h =
         let k : ok tt r₁.location ≡ byte c (is (get_or w n 0)) r.text.now r.location = rw h at e.answer in
         leads-on i e.kept (rw (add-one, drop-cons w n 0 l, ← k, ← e.kept))
 
-    pub fixed-wrong : {x : ParseError} {z : Answer (Unit {0}) ParseError} → m ≡ Err x → z ≡ Err x → Reads (fixed c w) r₀ r₁ z
+    pub fixed-wrong : {x : XbmPart} {z : Answer (Unit {0}) XbmPart} → m ≡ Err x → z ≡ Err x → Reads (fixed c w) r₀ r₁ z
     unfolding fixed
     fixed-wrong h k = leads-reads i (rw (drop-cons w n 0 l) (reads-refused (byte c (is (get_or w n 0))) (λ a. fixed c (drop (suc n) w)) e h k))
 

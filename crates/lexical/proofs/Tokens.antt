@@ -18,7 +18,7 @@ use Rattle.text.specs.Leaf.{run}
 use Rattle.text.proofs.Laws.{next-at}
 use Rattle.text.proofs.Reading.{run_on, run-stay, run-halt, run_end}
 use Rattle.lexical.specs.declared.XbmPart.{XbmPart}
-use Rattle.lexical.specs.Lexical.{number, broken}
+use Rattle.lexical.specs.Lexical.{number}
 use Rattle.lexical.specs.Token.{up_to, token}
 use Rattle.lexical.specs.Reads.{Reads}
 use Rattle.lexical.proofs.Laws.{passed-kept, reads-value, reads-refusal}
@@ -70,9 +70,9 @@ module _ (ends : ℕ → Bool) (c lim : ℕ) (r₀ : TextReader) (start : TextLo
       taking-end h v = reads-value i.kept (rw v (run_end c (up_to ends lim) (λ w. some w) (since start r) r.text.now r.location e h refl i.left))
 
 pub taking-full : (ends : ℕ → Bool) (part : XbmPart) (lim : ℕ) (r₀ : TextReader) (start : TextLocation) (r : TextReader) {m : Taken ℕ} {b : ℕ} {t : Bool} {w : List ℕ} → Taking ends (number part) lim r₀ start r → m ≡ next_of r
-    → m ≡ Some b → t ≡ ends b → t ≡ false → w ≡ since start r → lim ≤ length w → Reads (token ends (number part) lim) r₀ r (Err (broken part r.location))
+    → m ≡ Some b → t ≡ ends b → t ≡ false → w ≡ since start r → lim ≤ length w → Reads (token ends (number part) lim) r₀ r (Err part)
 taking-full ends part lim r₀ start r i e h y n v l =
-    reads-refusal i.kept refl
+    reads-refusal i.kept
     (run-halt (number part) (up_to ends lim) (λ w. some w) (since start r) r.text.now r.location e h (rw (← y, n, le-ltb (length (since start r)) lim (rw v at l))) i.left)
 
 pub ruleset taking_laws = (taking-more, taking-stop, taking-end, taking-full)

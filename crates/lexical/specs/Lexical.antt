@@ -4,8 +4,6 @@ use Rattle.std.proofs.Math.Option.{Option, none, some}
 use Rattle.text.specs.Place.{pick}
 use Rattle.text.specs.Reader.{Reader, ◌>>◌}
 use Rattle.text.specs.Leaf.{give, one, run, Move, go_on, stay}
-use Rattle.text.specs.declared.TextLocation.{TextLocation}
-use Rattle.lexical.specs.declared.ParseError.{ParseError}
 use Rattle.lexical.specs.declared.XbmPart.{XbmPart}
 use Rattle.lexical.specs.declared.XbmPart.TheVariants.{Width, Height, HotspotX, HotspotY, Array, Data, ArrayEnd, Trailing}
 
@@ -19,10 +17,6 @@ number Array = 5
 number Data = 6
 number ArrayEnd = 7
 number Trailing = 8
-
--- a rule of a part is broken at a place
-abbrev pub broken : XbmPart → TextLocation → ParseError
-broken part p = record { part = part; place = p }
 
 -- a blank: space or tab
 unfoldable pub is_blank : ℕ → Bool

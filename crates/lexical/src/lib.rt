@@ -7,7 +7,7 @@ ghost use Rattle.lexical.specs.Class.{Decides};
 ghost use Rattle.lexical.specs.Reads.{Reads, lent};
 ghost use Rattle.lexical.specs.Token.{token};
 
-use text::{TextLocation, TextReader};
+use text::TextReader;
 
 // The part of the file in which a rule is broken, by its number.
 #[derive(Clone, Copy, Debug, PartialEq, Eq)]
@@ -20,13 +20,6 @@ pub enum XbmPart {
     Data = 6,
     ArrayEnd = 7,
     Trailing = 8,
-}
-
-// A rule of a part is broken at a place.
-#[derive(Clone, Copy, Debug, PartialEq, Eq)]
-pub struct ParseError {
-    pub part: XbmPart,
-    pub place: TextLocation,
 }
 
 // The number of a refusal in a part.
@@ -63,33 +56,18 @@ fn skip_while<F: Fn(u8) -> bool>(r: &mut TextReader<'_>, class: F)
     }
 }
 
-// One byte of a class. The reader passes it in each branch, so that no newline is looked for where the class has none.
-#[inline(always)]
+// One byte of a class.
 pub fn read_byte_of<F: Fn(u8) -> bool>(
     r: &mut TextReader<'_>,
     class: F,
     part: XbmPart,
-) -> Result<(), ParseError>
+) -> Result<(), XbmPart>
     requires { F.IsAlwaysCallable class }
     ensures { (g : ℕ → Bool) → Decides (F.post class) g → Reads (byte (number part) g) r.old r.new result }
 {
-    match r.peek() {
-        Some(b) => {
-            if class(b) {
-                r.pass(b);
-                Ok(())
-            } else {
-                r.pass(b);
-                Err(ParseError {
-                    part,
-                    place: r.location,
-                })
-            }
-        }
-        None => Err(ParseError {
-            part,
-            place: r.location,
-        }),
+    match r.next() {
+        Some(b) if class(b) => Ok(()),
+        _ => Err(part),
     }
 }
 
@@ -101,17 +79,14 @@ pub fn read_optional_whitespace(r: &mut TextReader<'_>)
 }
 
 // Read a single byte.
-pub fn read_byte(r: &mut TextReader<'_>, part: XbmPart) -> Result<u8, ParseError>
+pub fn read_byte(r: &mut TextReader<'_>, part: XbmPart) -> Result<u8, XbmPart>
     ensures { Reads (any_byte (number part)) r.old r.new result }
 {
-    r.next().ok_or(ParseError {
-        part,
-        place: r.location,
-    })
+    r.next().ok_or(part)
 }
 
 // Read a mixture of ' ' and '\t'. At least one character must be read.
-pub fn read_whitespace_gap(r: &mut TextReader<'_>, part: XbmPart) -> Result<(), ParseError>
+pub fn read_whitespace_gap(r: &mut TextReader<'_>, part: XbmPart) -> Result<(), XbmPart>
     ensures { Reads (gap (number part)) r.old r.new result }
 {
     read_byte_of(r, is_blank, part)?;
@@ -120,7 +95,7 @@ pub fn read_whitespace_gap(r: &mut TextReader<'_>, part: XbmPart) -> Result<(), 
 }
 
 // Read a mixture of ' ' and '\t', until reading '\n'.
-pub fn read_to_newline(r: &mut TextReader<'_>, part: XbmPart) -> Result<(), ParseError>
+pub fn read_to_newline(r: &mut TextReader<'_>, part: XbmPart) -> Result<(), XbmPart>
     ensures { Reads (line_end (number part)) r.old r.new result }
 {
     skip_while(r, is_blank);
@@ -128,7 +103,7 @@ pub fn read_to_newline(r: &mut TextReader<'_>, part: XbmPart) -> Result<(), Pars
 }
 
 // Read precisely the string `s`.
-pub fn read_fixed_string(r: &mut TextReader<'_>, s: &[u8], part: XbmPart) -> Result<(), ParseError>
+pub fn read_fixed_string(r: &mut TextReader<'_>, s: &[u8], part: XbmPart) -> Result<(), XbmPart>
     ensures { Reads (fixed (number part) s.now) r.old r.new result }
 {
     for right in s {
@@ -142,7 +117,7 @@ pub fn read_until_whitespace<'a>(
     r: &mut TextReader<'a>,
     limit: usize,
     part: XbmPart,
-) -> Result<&'a [u8], ParseError>
+) -> Result<&'a [u8], XbmPart>
     ensures { Reads (token is_loose (number part) limit) r.old r.new (lent result) }
 {
     let start = r.loc();
@@ -151,10 +126,7 @@ pub fn read_until_whitespace<'a>(
             break;
         }
         if r.taken_since(start).len() >= limit {
-            return Err(ParseError {
-                part,
-                place: r.location,
-            });
+            return Err(part);
         }
         r.pass(b);
     }

@@ -7,7 +7,7 @@ ghost use Rattle.lexical.specs.Reads.{Reads, lent};
 ghost use Rattle.lines.specs.Lines.{value, symbol, define_line, unsigned_char, element, array_line};
 
 use lexical::{
-    ParseError, XbmPart, read_fixed_string, read_to_newline, read_until_whitespace,
+    XbmPart, read_fixed_string, read_to_newline, read_until_whitespace,
     read_whitespace_gap,
 };
 use text::TextReader;
@@ -16,7 +16,7 @@ use text::TextReader;
 const MAX_INTEGER_LENGTH: usize = 11;
 
 // A gap, an integer token, and the line's end.
-pub fn read_value<'a>(r: &mut TextReader<'a>, part: XbmPart) -> Result<&'a [u8], ParseError>
+pub fn read_value<'a>(r: &mut TextReader<'a>, part: XbmPart) -> Result<&'a [u8], XbmPart>
     ensures { Reads (value (number part) give) r.old r.new (lent result) }
 {
     read_whitespace_gap(r, part)?;
@@ -31,7 +31,7 @@ fn read_symbol(
     name: &[u8],
     suffix: &[u8],
     part: XbmPart,
-) -> Result<(), ParseError>
+) -> Result<(), XbmPart>
     ensures { Reads (symbol (number part) name.now suffix.now) r.old r.new result }
 {
     read_fixed_string(r, b"#define", part)?;
@@ -46,7 +46,7 @@ pub fn read_define_line<'a>(
     name: &[u8],
     suffix: &[u8],
     part: XbmPart,
-) -> Result<&'a [u8], ParseError>
+) -> Result<&'a [u8], XbmPart>
     ensures { Reads (define_line (number part) name.now suffix.now) r.old r.new (lent result) }
 {
     read_symbol(r, name, suffix, part)?;
@@ -54,7 +54,7 @@ pub fn read_define_line<'a>(
 }
 
 // `unsigned`, a gap and `char`.
-fn read_unsigned_char(r: &mut TextReader<'_>, part: XbmPart) -> Result<(), ParseError>
+fn read_unsigned_char(r: &mut TextReader<'_>, part: XbmPart) -> Result<(), XbmPart>
     ensures { Reads (unsigned_char (number part)) r.old r.new result }
 {
     read_fixed_string(r, b"unsigned", part)?;
@@ -63,28 +63,21 @@ fn read_unsigned_char(r: &mut TextReader<'_>, part: XbmPart) -> Result<(), Parse
 }
 
 // `char`, or that.
-fn read_element(r: &mut TextReader<'_>, part: XbmPart) -> Result<(), ParseError>
+fn read_element(r: &mut TextReader<'_>, part: XbmPart) -> Result<(), XbmPart>
     ensures { Reads (element (number part)) r.old r.new result }
 {
     match r.peek() {
         Some(b'c') => read_fixed_string(r, b"char", part),
         Some(b'u') => read_unsigned_char(r, part),
-        Some(b) => {
-            r.pass(b);
-            Err(ParseError {
-                part,
-                place: r.location,
-            })
+        _ => {
+            r.next();
+            Err(part)
         }
-        None => Err(ParseError {
-            part,
-            place: r.location,
-        }),
     }
 }
 
 // The line that opens the array.
-pub fn read_array_line(r: &mut TextReader<'_>, name: &[u8], part: XbmPart) -> Result<(), ParseError>
+pub fn read_array_line(r: &mut TextReader<'_>, name: &[u8], part: XbmPart) -> Result<(), XbmPart>
     ensures { Reads (array_line (number part) name.now) r.old r.new result }
 {
     read_fixed_string(r, b"static", part)?;

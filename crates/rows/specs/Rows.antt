@@ -2,6 +2,7 @@
 use Rattle.std.specs.Prelude.{ℕ, ◌/◌, ◌≡◌, List, Bool, true, false, length, eqb, ltb, Result as Answer, Ok, Err}
 use Rattle.std.proofs.Math.Option.{none}
 use Rattle.text.specs.declared.TextLocation.{TextLocation}
+use Rattle.text.specs.declared.TextReader.{TextReader}
 use Rattle.text.specs.Reader.{Reader, ◌>>=◌, ◌>>◌}
 use Rattle.text.specs.Leaf.{give, need}
 use Rattle.text.specs.Outcome.{Outcome, accepted, refused, unplaced, outcome}
@@ -28,12 +29,13 @@ whole w h n = items (count w h n) true >>= ending (eqb (n / w) h) (ltb (n / w) h
 
 -- ---- what the code answers
 
-abbrev pub told_rows : Answer (Unit {0}) RowsError → Outcome (Unit {0})
-told_rows (Ok u) = accepted tt
-told_rows (Err (Parse e)) = refused (number e.part) e.place
-told_rows (Err DimensionMismatch) = unplaced 31
+abbrev pub told_rows : Answer (Unit {0}) RowsError → TextLocation → Outcome (Unit {0})
+told_rows (Ok u) e = accepted tt
+told_rows (Err (Parse part)) e = refused (number part) e
+told_rows (Err DimensionMismatch) e = unplaced 31
 
--- reading the rows of a picture w wide and h high: the answer, and what the buffer holds later
-pub record Filled (w h : ℕ) (t : List ℕ) (i : TextLocation) (lent later : List ℕ) (r : Answer (Unit {0}) RowsError) : Type 0 where
-  pub answer : told_rows r ≡ outcome (λ l. tt) (whole w h (length lent) t i)
-  pub stored : later ≡ painted w (log_of (count w h (length lent)) true t i) lent
+-- reading the rows of a picture w wide and h high with the reader old: the answer, with the place where new stands, and what the buffer holds later
+pub record Filled (w h : ℕ) (old new : TextReader) (lent later : List ℕ) (r : Answer (Unit {0}) RowsError) : Type 0 where
+  pub kept : new.text ≡ old.text
+  pub answer : told_rows r new.location ≡ outcome (λ l. tt) (whole w h (length lent) old.text.now old.location)
+  pub stored : later ≡ painted w (log_of (count w h (length lent)) true old.text.now old.location) lent

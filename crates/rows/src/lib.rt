@@ -12,41 +12,31 @@ ghost use Rattle.rows.specs.Rows.{Filled};
 
 use body::{read_data_byte, read_trailer};
 use cells::unpack;
-use hexadecimal::hex_values;
-use lexical::ParseError;
+use hexadecimal::HexTable;
+use lexical::XbmPart;
 use text::TextReader;
 
-// What ends a picture's rows: a refusal, or rows of the buffer that are not the picture's.
+// What ends a picture's rows: a rule that is broken where the reader then stands, or rows of the buffer that are not the picture's.
 #[derive(Clone, Copy, Debug, PartialEq, Eq)]
 pub enum RowsError {
-    Parse(ParseError),
+    Parse(XbmPart),
     DimensionMismatch,
 }
 
-impl From<ParseError> for RowsError {
+impl From<XbmPart> for RowsError {
     ghost from_gives = { λ x e. e ≡ Parse x };
 
-    fn from(e: ParseError) -> RowsError {
-        RowsError::Parse(e)
+    fn from(part: XbmPart) -> RowsError {
+        RowsError::Parse(part)
     }
 }
 
 // `, 0x` as one number, the first byte the lowest.
 const COMMA_TO_MARK: u32 = 0x7830_202c;
 
-// A digit's value by the table.
-#[tactic(auto, using(crate::proofs::Group::table_laws))]
-fn hex_at(table: &[u8; 256], b: u8) -> Option<u8>
-    requires { table.now ≡ hex_table }
-    ensures { result ≡ value_of b }
-{
-    let v = table[b as usize];
-    if v < 16 { Some(v) } else { None }
-}
-
 // The common `, 0xHH` at once. Past the first data byte the place is known to be sound, and is not judged again.
-fn quick_byte(r: &mut TextReader<'_>, table: &[u8; 256]) -> Option<u8>
-    requires { (table.now ≡ hex_table) × Sound r.old.location }
+fn quick_byte(r: &mut TextReader<'_>, table: &HexTable) -> Option<u8>
+    requires { Sound r.old.location }
     ensures { Meets (item false) r.old r.new result }
 {
     if !r.reaches(6) {
@@ -57,8 +47,8 @@ fn quick_byte(r: &mut TextReader<'_>, table: &[u8; 256]) -> Option<u8>
     if u32::from_le_bytes([text[i], text[i + 1], text[i + 2], text[i + 3]]) != COMMA_TO_MARK {
         return None;
     }
-    let hi = hex_at(table, text[i + 4])?;
-    let lo = hex_at(table, text[i + 5])?;
+    let hi = table.value_of(text[i + 4])?;
+    let lo = table.value_of(text[i + 5])?;
     r.pass_along(6);
     Some(hi * 16 + lo)
 }
@@ -66,8 +56,8 @@ fn quick_byte(r: &mut TextReader<'_>, table: &[u8; 256]) -> Option<u8>
 // The next data byte: the common form at once, anything else by the plain reader. The first is told apart, since it has no comma and its
 // place is not yet judged. The plain answer is taken apart and made again, so that it shares no memory with the quick one, which then
 // stays in registers: handed on as it is, decoding took two to three times as long.
-fn next_data(r: &mut TextReader<'_>, first: bool, table: &[u8; 256]) -> Result<u8, ParseError>
-    requires { (table.now ≡ hex_table) × (first ≡ false → Sound r.old.location) }
+fn next_data(r: &mut TextReader<'_>, first: bool, table: &HexTable) -> Result<u8, XbmPart>
+    requires { first ≡ false → Sound r.old.location }
     ensures { Reads (item first) r.old r.new result }
 {
     if !first {
@@ -82,22 +72,22 @@ fn next_data(r: &mut TextReader<'_>, first: bool, table: &[u8; 256]) -> Result<u
 // Fills the whole rows of `width` cells that the buffer has, as far as the picture goes. Eight cells are unpacked apart from fewer: with
 // one call for both it takes a fifth more instructions. The sides are two numbers: a struct of them would be taken apart at once.
 pub fn read_rows(
-    mut r: TextReader<'_>,
+    r: &mut TextReader<'_>,
     width: u32,
     height: u32,
     pixels: &mut [u8],
 ) -> Result<(), RowsError>
-    ensures { Filled width height r.entry.text.now r.entry.location pixels.old pixels.new result }
+    ensures { Filled width height r.old r.new pixels.old pixels.new result }
 {
     let w = width as usize;
     let h = height as usize;
     let rows = pixels.len().checked_div(w).unwrap_or(0);
     let across = w.div_ceil(8);
-    let table = hex_values();
+    let table = HexTable::new();
     let mut first = true;
     for y in 0..rows.min(h) {
         for j in 0..across {
-            let v = next_data(&mut r, first, &table)?;
+            let v = next_data(r, first, &table)?;
             let x = 8 * j;
             let start = y * w + x;
             let left = w - x;
@@ -112,10 +102,10 @@ pub fn read_rows(
         }
     }
     if rows < h {
-        read_data_byte(&mut r, first)?;
+        read_data_byte(r, first)?;
         return Err(RowsError::DimensionMismatch);
     }
-    read_trailer(&mut r)?;
+    read_trailer(r)?;
     if rows == h {
         Ok(())
     } else {

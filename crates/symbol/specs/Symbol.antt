@@ -8,7 +8,7 @@ use Rattle.text.specs.Leaf.{want}
 use Rattle.lexical.specs.Lexical.{is_loose, fixed, gap, leading}
 use Rattle.text.specs.declared.TextLocation.{TextLocation}
 use Rattle.text.specs.declared.TextReader.{TextReader}
-use Rattle.lexical.specs.declared.ParseError.{ParseError}
+use Rattle.lexical.specs.declared.XbmPart.{XbmPart}
 use Rattle.lexical.specs.Token.{token, span, overlay}
 use Rattle.lexical.specs.Reads.{Reads}
 
@@ -57,16 +57,16 @@ unfoldable pub stored : ℕ → List ℕ → List ℕ
 stored limit t = stored_from start limit t
 
 -- an answer: the name stands at the start of what the buffer holds
-abbrev pub named : List ℕ → Answer ℕ ParseError → Answer (List ℕ) ParseError
+abbrev pub named : List ℕ → Answer ℕ XbmPart → Answer (List ℕ) XbmPart
 named held (Ok n) = Ok (take n held)
 named held (Err x) = Err x
 
-abbrev pub size_of : Answer ℕ ParseError → ℕ
+abbrev pub size_of : Answer ℕ XbmPart → ℕ
 size_of (Ok n) = n
 size_of (Err x) = 0
 
 -- reading the width's symbol into a lent buffer: the name in it, within the buffer; and the buffer later
-pub record Symboled (old new : TextReader) (lent later : List ℕ) (r : Answer ℕ ParseError) : Type 0 where
+pub record Symboled (old new : TextReader) (lent later : List ℕ) (r : Answer ℕ XbmPart) : Type 0 where
   pub reads : Reads (width_symbol (length lent)) old new (named later r)
   pub fits : size_of r ≤ length later
   pub symbol : later ≡ overlay (stored_from old.location (length lent) old.text.now) lent

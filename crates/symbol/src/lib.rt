@@ -6,7 +6,7 @@ ghost use Rattle.lexical.specs.Reads.{Reads};
 ghost use Rattle.symbol.specs.Symbol.{opening, Symboled};
 
 use leading::skip_non_define_lines;
-use lexical::{ParseError, XbmPart, read_fixed_string, read_until_whitespace, read_whitespace_gap};
+use lexical::{XbmPart, read_fixed_string, read_until_whitespace, read_whitespace_gap};
 use text::TextReader;
 
 // A limit on the length of a #define symbol (name and `_width`), for callers that have no other: the name buffer's length is the limit.
@@ -20,7 +20,7 @@ pub fn name_buffer() -> [u8; MAX_IDENTIFIER_LENGTH]
 }
 
 // What precedes the width's symbol: leading lines, `#define`, a gap.
-fn read_opening(r: &mut TextReader<'_>) -> Result<(), ParseError>
+fn read_opening(r: &mut TextReader<'_>) -> Result<(), XbmPart>
     ensures { Reads opening r.old r.new result }
 {
     skip_non_define_lines(r, XbmPart::Width)?;
@@ -30,7 +30,7 @@ fn read_opening(r: &mut TextReader<'_>) -> Result<(), ParseError>
 
 // The width's symbol, stored in `name`, also what was taken of one that is too long; the answer is the length of the name in it,
 // as the C interface hands it on.
-pub fn read_width_symbol(r: &mut TextReader<'_>, name: &mut [u8]) -> Result<usize, ParseError>
+pub fn read_width_symbol(r: &mut TextReader<'_>, name: &mut [u8]) -> Result<usize, XbmPart>
     ensures { Symboled r.old r.new name.old name.new result }
 {
     read_opening(r)?;
@@ -38,11 +38,8 @@ pub fn read_width_symbol(r: &mut TextReader<'_>, name: &mut [u8]) -> Result<usiz
     let symbol = read_until_whitespace(r, name.len(), XbmPart::Width);
     let taken = r.taken_since(start);
     name[..taken.len()].copy_from_slice(taken);
-    match symbol?.strip_suffix(b"_width") {
-        Some(front) => Ok(front.len()),
-        None => Err(ParseError {
-            part: XbmPart::Width,
-            place: r.location,
-        }),
-    }
+    symbol?
+        .strip_suffix(b"_width")
+        .map(<[u8]>::len)
+        .ok_or(XbmPart::Width)
 }

@@ -5,8 +5,6 @@ ghost use Rattle.std.specs.Prelude.{◌≡◌, ◌^◌, ◌<◌};
 ghost use Rattle.text.specs.Place.{byte_of, at_line_start, start, nowhere, is_sound, along_line, past_line, past_byte};
 ghost use Rattle.text.specs.TextReader.{foreign, reaching, left, next_of, moved_on, passed, passed_along, passed_line, since};
 
-use std::num::wrapping_add_u64;
-
 // How many bytes were taken.
 #[repr(C)]
 #[derive(Clone, Copy, Debug, PartialEq, Eq)]
@@ -84,9 +82,9 @@ pub fn along(place: TextLocation, n: u64) -> TextLocation
     ensures { result ≡ along_line place n }
 {
     TextLocation {
-        byte: Byte(wrapping_add_u64(place.byte.0, n)),
+        byte: Byte(place.byte.0.wrapping_add(n)),
         line: Line(place.line.0),
-        column: Column(wrapping_add_u64(place.column.0, n)),
+        column: Column(place.column.0.wrapping_add(n)),
         start: Start(place.start.0),
     }
 }
@@ -95,8 +93,8 @@ pub fn along(place: TextLocation, n: u64) -> TextLocation
 pub fn past_line(place: TextLocation, n: u64) -> TextLocation
     ensures { result ≡ past_line place n }
 {
-    let end = wrapping_add_u64(place.byte.0, n);
-    at_line_start(wrapping_add_u64(end, 1), wrapping_add_u64(place.line.0, 1))
+    let end = place.byte.0.wrapping_add(n);
+    at_line_start(end.wrapping_add(1), place.line.0.wrapping_add(1))
 }
 
 // The place past one byte, which is b.
