@@ -12,7 +12,7 @@ use text::TextReader;
 
 mod hex_table;
 
-// A hex digit's value.
+// A hex digit's value. By ranges: `to_digit` is no plainer, since it takes a char and answers a u32.
 #[tactic(auto, using(std::proofs::lemmas::Bool::Decides::nat_tests), unfolding(crate::specs::Hex::hex_of))]
 pub fn hex_value(b: u8) -> Option<u8>
     ensures { result ≡ value_of b }
@@ -40,6 +40,7 @@ impl HexTable {
     }
 
     // A digit's value.
+    #[tactic(auto, using(crate::proofs::Hex::table_laws))]
     pub fn value_of(&self, b: u8) -> Option<u8>
         ensures { result ≡ value_of b }
     {
