@@ -17,7 +17,7 @@ use Rattle.text.specs.Leaf.{give}
 use Rattle.text.specs.Outcome.{Outcome, outcome}
 use Rattle.lexical.specs.declared.XbmPart.{XbmPart}
 use Rattle.lexical.specs.Reads.{Reads, told, broken}
-use Rattle.lexical.proofs.Laws.{reads-then, reads-refused, reads-give}
+use Rattle.lexical.proofs.Laws.{reads-then, reads-refused, reads-give, refused-as}
 use Rattle.body.specs.Data.{item, trailer, bytes_of}
 use Rattle.decoder.specs.Step.{foreign, more, called, spent, placed_at, told_call, step_of}
 use Rattle.decoder.specs.declared.StreamError.{StreamError}
@@ -86,4 +86,4 @@ module _ {s : Bor (List ℕ)} (d : XbmStreamDecoder) {f : Bool} (e : f ≡ forei
     pub step-bad : {x : XbmPart} {y : StreamError} → m ≡ Err x → y ≡ Parse x → told_call (Err y) (placed_at d d.current_position q) ≡ step_of s.now d
     step-bad n u = read-is (end-is d g l (reads-refused _ _ c n refl)) (rw u) (rw (← g, l))
 
-pub ruleset step_laws = (step-foreign, step-byte, step-wrong, step-done, step-bad)
+pub ruleset step_laws = (step-foreign, step-byte, step-wrong, step-done, step-bad, refused-as)
