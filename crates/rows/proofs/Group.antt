@@ -3,7 +3,7 @@ use Prim.Native.Nat.{ℕ, ◌+◌, ◌*◌, ◌≤◌, ◌<◌, ◌^◌}
 use native.Mathlib.Omega.{arith}
 use mir.Syntax.{w8, w32, w64}
 use mir.Val.{Fits}
-use borrow.Author.Tests.{lt-ltb, le-ltb, ltb-true, leb-true, eqb-true, not-false}
+use borrow.Author.Tests.{lt-ltb, ltb-true, leb-true, eqb-true, not-false}
 use mathlib.Core.Path.{◌≡◌, refl, sym, ap, ◌∙◌}
 use mathlib.Core.List.{List, [], ◌∷◌}
 use mathlib.Core.Bool.{Bool, true, false, not}
@@ -25,20 +25,10 @@ use Rattle.text.specs.Leaf.{one, run, give}
 use Rattle.lexical.specs.Lexical.{is_loose, is_blank, skip, byte, is, fixed}
 use Rattle.hexadecimal.specs.Hex.{hex_of, value_of, hexv, hex_digit, hex_start, hex_digits, hex_unit, is_mark}
 use Rattle.body.specs.Data.{item}
-use Rattle.hexadecimal.proofs.Hex.{hex-there}
 use Rattle.rows.specs.Quick.{Meets}
 
 pub missed : (p : Reader ℕ) {r₀ r₁ : TextReader} {m : Answered ℕ} → m ≡ None → r₁ ≡ r₀ → Meets p r₀ r₁ m
 missed p e k = record { kept = ap (λ r. r.text) k; hit = λ v h. cc; miss = λ h. k }
-
--- a digit by the table
-pub digit-there : (b : ℕ) {v : ℕ} → v ≡ hex_of b → v < 16 → Some v ≡ value_of b
-digit-there b {v} e h = rw (← e, lt-ltb v 16 h)
-
-pub digit-none : (b : ℕ) {v : ℕ} → v ≡ hex_of b → 16 ≤ v → None ≡ value_of b
-digit-none b {v} e h = rw (← e, le-ltb v 16 h)
-
-pub ruleset table_laws = (digit-there, digit-none, hex-there)
 
 -- what a digit is
 digit-is : (b : ℕ) {v : ℕ} → Some v ≡ value_of b → (v ≡ hex_of b) × (hex_of b < 16)

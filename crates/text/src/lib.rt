@@ -50,7 +50,7 @@ fn at_line_start(byte: u64, line: u64) -> TextLocation
 
 // The place where a text starts.
 #[inline(always)]
-pub fn beginning() -> TextLocation
+fn beginning() -> TextLocation
     ensures { result ≡ start }
 {
     at_line_start(0, 1)
@@ -78,7 +78,7 @@ fn is_sound(place: TextLocation) -> bool
 }
 
 // The place n bytes on within a line. Past 2 ^ 64 bytes, which no text has, the sums wrap; so below.
-pub fn along(place: TextLocation, n: u64) -> TextLocation
+fn along(place: TextLocation, n: u64) -> TextLocation
     ensures { result ≡ along_line place n }
 {
     TextLocation {
@@ -90,7 +90,7 @@ pub fn along(place: TextLocation, n: u64) -> TextLocation
 }
 
 // The place past n more bytes of a line and its newline.
-pub fn past_line(place: TextLocation, n: u64) -> TextLocation
+fn past_line(place: TextLocation, n: u64) -> TextLocation
     ensures { result ≡ past_line place n }
 {
     let end = place.byte.0.wrapping_add(n);
@@ -98,7 +98,7 @@ pub fn past_line(place: TextLocation, n: u64) -> TextLocation
 }
 
 // The place past one byte, which is b.
-pub fn past_byte(place: TextLocation, b: u8) -> TextLocation
+fn past_byte(place: TextLocation, b: u8) -> TextLocation
     ensures { result ≡ past_byte place b }
 {
     if b == b'\n' {
@@ -135,7 +135,8 @@ impl<'a> TextReader<'a> {
         self.location
     }
 
-    // Whether the text has no such place: a byte past its end, a start that is not the byte less the column, or a line that so few bytes do not reach.
+    // Whether the text has no such place: a byte past its end, a start that is not the byte less the column, or a line that so few bytes
+    // do not reach.
     pub fn is_foreign(&self) -> bool
         ensures { result ≡ foreign self.now }
     {
@@ -181,6 +182,7 @@ impl<'a> TextReader<'a> {
     }
 
     // Peek at the next byte. At the end, nothing.
+    #[tactic(auto, using(crate::proofs::Laws::peek_laws))]
     #[inline(always)]
     pub fn peek(&self) -> Option<u8>
         ensures { result ≡ next_of self.now }
