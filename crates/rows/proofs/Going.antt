@@ -134,12 +134,8 @@ module _ (w h : ℕ) (r₀ : TextReader) (lent : List ℕ) where
       }
 
   module _ (p : List ℕ) (r : TextReader) (f : Bool) (k : ℕ) (g : Going w h r₀ lent p r f k) where
-    -- past the first data byte the place is sound
-    pub going-sound : f ≡ false → Sound r.location
-    going-sound = g.sound
-
     -- the same number in other words
-    pub going_as : {n : ℕ} → n ≡ k → Going w h r₀ lent p r f n
+    going_as : {n : ℕ} → n ≡ k → Going w h r₀ lent p r f n
     going_as e = rw e g
 
     filled : {r' : TextReader} (z : Answer (Unit {0}) RowsError) (l : Log) → r'.text ≡ r.text → log_of (count w h (length lent)) true r₀.text.now r₀.location ≡ l → l ≡ g.done
@@ -157,7 +153,7 @@ module _ (w h : ℕ) (r₀ : TextReader) (lent : List ℕ) where
       one_less = omega arith
 
       -- it is not there
-      pub going-wrong : {r' : TextReader} {m : Answer ℕ XbmPart} {x : XbmPart} {z : Answer (Unit {0}) RowsError} → Reads (item f) r r' m → m ≡ Err x → z ≡ Err (Parse x) → Filled w h r₀ r' lent p z
+      going-wrong : {r' : TextReader} {m : Answer ℕ XbmPart} {x : XbmPart} {z : Answer (Unit {0}) RowsError} → Reads (item f) r r' m → m ≡ Err x → z ≡ Err (Parse x) → Filled w h r₀ r' lent p z
       going-wrong {r'} {x = x} e y u =
           let o : stop (number x) r'.location ≡ item f r₀.text.now r.location = rw y at (off e) in
           rw u
@@ -226,9 +222,6 @@ module _ (w h : ℕ) (r₀ : TextReader) (lent p : List ℕ) (r : TextReader) (f
 
   pub rest-inside : y * w + 8 * j + (w - 8 * j) ≤ length p
   rest-inside = omega (arith, room, in_row)
-
-  pub eight-inside : 8 < w - 8 * j → y * w + 8 * j + 8 ≤ length p
-  eight-inside l = omega (arith, room)
 
   more : y * a + j < count w h (length lent)
   more =
@@ -311,4 +304,4 @@ module _ (w h : ℕ) (r₀ : TextReader) (lent p : List ℕ) (r : TextReader) (f
         go true u = close (Err (Parse x)) e.kept (rw (u, ← o))
         go false u = close (Err (Parse x)) e.kept (rw (u, le-ltb (length lent / w) h (omega arith), ← o))
 
-pub ruleset going_laws = (rows-are, going_start, going-sound, going_as, rest-inside, eight-inside, going_more, going_next, going-refused, going-few, going-few-wrong, going_done, going-many, going-bad)
+pub ruleset going_laws = (rows-are, going_start, rest-inside, going_more, going_next, going-refused, going-few, going-few-wrong, going_done, going-many, going-bad)
