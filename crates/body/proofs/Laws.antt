@@ -20,7 +20,7 @@ use Rattle.lexical.specs.declared.XbmPart.{XbmPart}
 use Rattle.lexical.specs.declared.XbmPart.TheVariants.{Data, ArrayEnd, Trailing}
 use Rattle.lexical.specs.Lexical.{number, when, is_blank, is_loose, skip, byte, is, fixed}
 use Rattle.lexical.specs.Reads.{Reads}
-use Rattle.lexical.proofs.Laws.{reads-value, reads-refusal, reads-after, reads-refused, one-value, unmoved, skip_stop, reads-as}
+use Rattle.lexical.proofs.Laws.{reads-value, reads-refusal, reads-after, reads-refused, one-value, unmoved, skip_stop, reads-as, reads_laws, refused-as}
 use Rattle.hexadecimal.specs.Hex.{hex_byte}
 use Rattle.body.specs.Data.{item, brace}
 use Rattle.body.specs.Code.{separator, ended}
@@ -50,9 +50,9 @@ unfolding byte
 comma part {r₀} e h l k = one-value part (λ b. when (is 44 b)) e h (reader_passed r₀ e h l k) refl
 
 -- between two data bytes, where the comma stands at once
-pub separator-at-once : {r₀ r₁ : TextReader} {m : Taken ℕ} {w : Bool} → m ≡ next_of r₀ → w ≡ option_eq eqb m (Some 44) → w ≡ true → length r₀.text.now * 1 < 2 ^ 63 → r₁ ≡ passed 44 r₀ → Reads separator r₀ r₁ (Ok tt)
+pub separator_at_once : {r₀ r₁ : TextReader} {m : Taken ℕ} {w : Bool} → m ≡ next_of r₀ → w ≡ option_eq eqb m (Some 44) → w ≡ true → length r₀.text.now * 1 < 2 ^ 63 → r₁ ≡ passed 44 r₀ → Reads separator r₀ r₁ (Ok tt)
 unfolding is_loose is_blank
-separator-at-once {m = m} e o h l k =
+separator_at_once {m = m} e o h l k =
     let h = looked 44 m o h in
     reads-after (skip is_loose) (λ a. byte 6 (is 44)) (skip_stop is_loose e h refl refl) (comma Data e h l k)
 
@@ -86,6 +86,11 @@ module _ {r₁ r₂ r₃ : TextReader} {z : Answer ℕ XbmPart} (l : Reads (skip
 pub item-refused : {f : Bool} {r₀ r₁ : TextReader} {m : Answer (Unit {0}) XbmPart} {x : XbmPart} {z : Answer ℕ XbmPart} → f ≡ false → Reads separator r₀ r₁ m → m ≡ Err x → z ≡ Err x → Reads (item f) r₀ r₁ z
 unfolding item
 item-refused {r₀ = r₀} h g k e = rw h (spaced r₀ (reads-refused separator (λ a. skip is_loose >> hex_byte 6) g k e))
+
+pub ruleset item_laws = (item-first, item-next, item-refused, refused-as)
+
+-- what the parts of the trailer need
+pub ruleset part_laws = (reads_laws, refused-as)
 
 -- the brace: past one comma and loose space, or at once
 no-comma : (t : List ℕ) (i : TextLocation) (m : Taken ℕ) → m ≡ peeked_at t i → option_eq eqb m (Some 44) ≡ false → fixed 7 (125 ∷ []) t i ≡ brace t i

@@ -65,6 +65,7 @@ fn is_mark(b: u8) -> bool
 }
 
 // `0` and then `x` or `X`.
+#[tactic(auto, using(lexical::proofs::Laws::bind_then), unfolding(crate::specs::Hex::hex_start))]
 fn read_hex_start(r: &mut TextReader<'_>, part: XbmPart) -> Result<(), XbmPart>
     ensures { Reads (hex_start (number part)) r.old r.new result }
 {
@@ -73,6 +74,7 @@ fn read_hex_start(r: &mut TextReader<'_>, part: XbmPart) -> Result<(), XbmPart>
 }
 
 // Read a hex-encoded byte (e.g.: 0xA1).
+#[tactic(auto, using(lexical::proofs::Laws::bind_then), unfolding(crate::specs::Hex::hex_unit, crate::specs::Hex::hex_digits))]
 pub fn read_hex_byte(r: &mut TextReader<'_>, part: XbmPart) -> Result<u8, XbmPart>
     ensures { Reads (hex_byte (number part)) r.old r.new result }
 {

@@ -36,7 +36,6 @@ pub struct TextLocation {
 }
 
 // A place at the start of a line.
-#[inline(always)]
 fn at_line_start(byte: u64, line: u64) -> TextLocation
     ensures { result ≡ at_line_start byte line }
 {
@@ -49,7 +48,6 @@ fn at_line_start(byte: u64, line: u64) -> TextLocation
 }
 
 // The place where a text starts.
-#[inline(always)]
 fn beginning() -> TextLocation
     ensures { result ≡ start }
 {
@@ -115,10 +113,8 @@ pub struct TextReader<'a> {
     pub location: TextLocation,
 }
 
-// Hints on inlining, here and where a byte is read, are for speed: without them a data byte takes a tenth more instructions.
 impl<'a> TextReader<'a> {
     // Initialize a TextReader.
-    #[inline(always)]
     pub fn new(text: &'a [u8]) -> TextReader<'a>
         ensures { (result.text ≡ text.entry) × (result.location ≡ start) }
     {
@@ -183,7 +179,6 @@ impl<'a> TextReader<'a> {
 
     // Peek at the next byte. At the end, nothing.
     #[tactic(auto, using(crate::proofs::Laws::peek_laws))]
-    #[inline(always)]
     pub fn peek(&self) -> Option<u8>
         ensures { result ≡ next_of self.now }
     {
@@ -208,7 +203,6 @@ impl<'a> TextReader<'a> {
     }
 
     // Past the byte b, which was looked at.
-    #[inline(always)]
     pub fn pass(&mut self, b: u8)
         ensures { self.new ≡ passed b self.old }
     {
