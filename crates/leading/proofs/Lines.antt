@@ -3,7 +3,7 @@ use Prim.Native.Nat.{ℕ, suc, ◌+◌, ◌-◌, ◌*◌, ◌^◌, ◌<◌, ◌�
 use native.Mathlib.Nat.{zero-add}
 use native.Mathlib.Omega.{arith}
 use native.Mathlib.Decide.{dec_lt}
-use borrow.Author.Tests.{eq-eqb, ne_eqb, eqb-true, lt-ltb, le-ltb}
+use borrow.Author.Tests.{eq-eqb, ne_eqb, eqb-true, lt-ltb, le-ltb, ltb-false}
 use mathlib.Core.Path.{◌≡◌, refl, sym, ap, ◌∙◌}
 use mathlib.Core.Option.{none}
 use mathlib.Core.List.{List, [], ◌∷◌}
@@ -13,17 +13,16 @@ use lib.Dec.{eqb, ltb}
 use Rattle.std.specs.Prelude.{Option as Found, Some, None, Result as Answer, Ok, Err}
 use Rattle.text.specs.declared.TextLocation.{TextLocation}
 use Rattle.text.specs.declared.TextReader.{TextReader}
-use Rattle.text.specs.TextReader.{left, next_of, passed_along, passed_line}
-use Rattle.text.specs.Place.{pick, rest, after, past, byte_of, peeked, peeked_at}
+use Rattle.text.specs.TextReader.{next_of}
+use Rattle.text.specs.Place.{pick, rest, after, past, byte_of, has_left, along_line, past_line, peeked, peeked_at}
 use Rattle.text.specs.Rest.{Sound, newlines}
 use Rattle.text.proofs.Rest.{after-rest}
-use Rattle.text.proofs.PlaceLaws.{sound-rest, left-inside, left-none, along-past, line-past}
+use Rattle.text.proofs.PlaceLaws.{left-inside, left-rest, left-none, along-past, line-past}
 use Rattle.text.proofs.Laws.{end_rest}
-use Rattle.text.specs.Reader.{Result, ok, stop, then, Reader, ◌>>=◌, ◌>>◌}
+use Rattle.text.specs.Reader.{Result, ok, stop, then, ◌>>=◌, ◌>>◌}
 use Rattle.text.specs.Leaf.{one, run, scan}
 use Rattle.lexical.specs.declared.XbmPart.{XbmPart}
-use Rattle.lexical.specs.declared.ParseError.{ParseError}
-use Rattle.lexical.specs.Lexical.{number, broken, byte, skip, lead, leading}
+use Rattle.lexical.specs.Lexical.{number, byte, skip, lead, leading}
 use Rattle.lexical.specs.Reads.{Reads}
 use Rattle.lexical.proofs.Laws.{reads-value, reads-refusal, reads-refused, Leads, leads-reads, leads-on}
 use Rattle.leading.specs.Line.{line_of, in_line, line_rest}
@@ -81,50 +80,30 @@ line_plain (b ∷ l) = go (eqb b 10) refl (line_plain l)
 
 -- ---- skipping the rest of a line where a reader stands
 
-module _ (part : XbmPart) (r : TextReader) {f : Bool} (g : f ≡ left 1 r) where
-  pub line-none : {x : ParseError} → f ≡ false → x ≡ broken part r.location → Reads (line_rest (number part)) r r (Err x)
-  line-none h s =
-      reads-refusal refl (ap (λ (x : ParseError). x.place) s) (rw s (sym (line_at (number part) r.text.now [] r.location (left-none r.text.now r.location (sym g ∙ h)))))
+module _ (c : ℕ) (t : List ℕ) (i : TextLocation) where
+  pub line_none : has_left t i 1 ≡ false → line_rest c t i ≡ stop c i
+  line_none h = line_at c t [] i (left-none t i h)
 
-  pub line-from : f ≡ true → {p : TextLocation} → p ≡ r.location → byte_of p ≤ length r.text.now
-  line-from h q = omega (arith, ap byte_of q, (left-inside r.text.now r.location 1 (sym g ∙ h)).0)
+  abbrev on : List ℕ
+  on = drop (byte_of i) t
 
-  module _ (h : f ≡ true) {p : TextLocation} (q : p ≡ r.location) {e : ℕ} (k : e ≡ byte_of p + length (line_of (drop (byte_of p) r.text.now))) (m : length r.text.now * 1 < 2 ^ 63) where
-    abbrev on : List ℕ
-    on = drop (byte_of r.location) r.text.now
+  pub line_left : has_left t i 1 ≡ true → length t * 1 < 2 ^ 63
+      → line_rest c t i ≡ pick (ltb (length (line_of on)) (length on)) (ok tt (past_line i (length (line_of on)))) (stop c (along_line i (length t - byte_of i)))
+  line_left h l = line_at c t on i (left-rest t i 1 h) ∙ go (ltb (length (line_of on)) (length on)) refl
+    where
+      k : (byte_of i + 1 ≤ length t) × Sound i
+      k = left-inside t i 1 h
 
-    size : e - byte_of p ≡ length (line_of on)
-    size = rw (← q) (omega arith)
+      go : (x : Bool) → ltb (length (line_of on)) (length on) ≡ x
+          → pick x (ok (tt {0}) (after 10 (past i (line_of on)))) (stop c (past i (line_of on))) ≡ pick x (ok tt (past_line i (length (line_of on)))) (stop c (along_line i (length t - byte_of i)))
+      go true e = rw (line-past i (line_of on) k.1 (line_plain on) (omega (arith, k.0, line-short on, length-drop (byte_of i) t)))
+      go false e =
+          let z : length t - byte_of i ≡ length (line_of on) = omega (arith, ltb-false _ _ e, line-short on, length-drop (byte_of i) t) in
+          rw (z, along-past i (line_of on) k.1 (line_plain on) (omega (arith, k.0, line-short on, length-drop (byte_of i) t)))
 
-    inside : byte_of r.location + 1 ≤ length r.text.now
-    inside = (left-inside r.text.now r.location 1 (sym g ∙ h)).0
-
-    sound : Sound r.location
-    sound = (left-inside r.text.now r.location 1 (sym g ∙ h)).1
-
-    pub line-to : {r₁ : TextReader} → e < length r.text.now → r₁ ≡ passed_line (e - byte_of p) r → Reads (line_rest (number part)) r r₁ (Ok tt)
-    line-to l w =
-        let x : length (line_of on) < length on = omega (arith, inside, size, ap byte_of q, length-drop (byte_of r.location) r.text.now) in
-        reads-value (ap (λ r. r.text) w) (sym (line_at (number part) r.text.now on r.location (sound-rest r.text.now r.location sound)
-        ∙ rw (lt-ltb _ _ x, w, size, line-past r.location (line_of on) sound (line_plain on) (omega (arith, inside, x, length-drop (byte_of r.location) r.text.now)))))
-
-    pub line-out : {r₁ : TextReader} {x : ParseError} → length r.text.now ≤ e → r₁ ≡ passed_along (e - byte_of p) r → x ≡ broken part r₁.location → Reads (line_rest (number part)) r r₁ (Err x)
-    line-out l w s =
-        let x : length on ≤ length (line_of on) = omega (arith, inside, size, ap byte_of q, length-drop (byte_of r.location) r.text.now) in
-        let y : byte_of r.location + length (line_of on) < 2 ^ 64 = omega (arith, inside, line-short on, length-drop (byte_of r.location) r.text.now) in
-        reads-refusal (ap (λ r. r.text) w) (ap (λ (x : ParseError). x.place) s) (rw s (sym (line_at (number part) r.text.now on r.location (sound-rest r.text.now r.location sound)
-        ∙ rw (le-ltb _ _ x, w, size, along-past r.location (line_of on) sound (line_plain on) y))))
-
-pub ruleset line_laws = (line-none, line-from, line-to, line-out)
+pub ruleset line_laws = (line_none, line_left)
 
 -- ---- lines before the first define line
-
--- a reading that goes on as q does, once q has been read
-leads-then : {A B : Type 0} {p : Reader B} {r₀ : TextReader} (q : Reader A) (f : A → Reader B) {r r₁ : TextReader} {m : Answer A ParseError} {a : A} → Leads p r₀ (q >>= f) r → Reads q r r₁ m → m ≡ Ok a → Leads p r₀ (f a) r₁
-unfolding ◌>>=◌
-leads-then q f {r} {r₁} {a = a} i h n =
-    let e : ok a r₁.location ≡ q r.text.now r.location = rw n at h.answer in
-    record { kept = h.kept ∙ i.kept; same = rw (h.kept) (rw (← e) at i.same) }
 
 -- inside a line: its rest, and then lines again
 lead-line : (c : ℕ) (t l : List ℕ) (i : TextLocation) → rest t i ≡ l → leading c false t i ≡ then (line_rest c t i) (λ a e. leading c true t e)
@@ -149,20 +128,23 @@ module _ {m : Found ℕ} (r : TextReader) (e : m ≡ next_of r) where
   unfolding leading run
   lines-found {b} c h k = let (l, f) = found r.text.now r.location e h in reads-value refl (rw (f, eq-eqb b 35 k))
 
-  pub lines-none : (part : XbmPart) {x : ParseError} → m ≡ None → x ≡ broken part r.location → Reads (leading (number part) true) r r (Err x)
+  pub lines-none : (part : XbmPart) → m ≡ None → Reads (leading (number part) true) r r (Err part)
   unfolding leading run
-  lines-none part h s = reads-refusal refl (ap (λ (x : ParseError). x.place) s) (rw (s, end_rest r.text.now r.location e h))
+  lines-none part h = reads-refusal refl (rw (end_rest r.text.now r.location e h))
 
   -- a line that no `#` begins: its rest, and then lines again
   skipped : {b : ℕ} (c : ℕ) → m ≡ Some b → (b ≡ 35 → ⊥) → (line_rest c >> leading c true) r.text.now r.location ≡ leading c true r.text.now r.location
   unfolding leading run ◌>>=◌
   skipped {b} c h k = let (l, f) = found r.text.now r.location e h in sym (lead-line c r.text.now (b ∷ l) r.location f) ∙ rw (f, ne_eqb b 35 k)
 
-  module _ {b : ℕ} (h : m ≡ Some b) (k : b ≡ 35 → ⊥) (c : ℕ) {r₁ : TextReader} {s : Answer (Unit {0}) ParseError} (g : Reads (line_rest c) r r₁ s) where
-    pub lines-on : {p : Reader (Unit {0})} {r₀ : TextReader} → Leads p r₀ (leading c true) r → s ≡ Ok tt → Leads p r₀ (leading c true) r₁
-    lines-on i n = leads-then (line_rest c) (λ a. leading c true) (leads-on i refl (skipped c h k)) g n
+  module _ {b : ℕ} (h : m ≡ Some b) (k : b ≡ 35 → ⊥) (c : ℕ) {r₁ : TextReader} {s : Answer (Unit {0}) XbmPart} (g : Reads (line_rest c) r r₁ s) where
+    pub lines-on : s ≡ Ok tt → leading c true r₁.text.now r₁.location ≡ leading c true r.text.now r.location
+    unfolding ◌>>=◌
+    lines-on n =
+        let a : ok tt r₁.location ≡ line_rest c r.text.now r.location = rw n at g.answer in
+        rw g.kept (rw (← a) at (skipped c h k))
 
-    pub lines-end : {x : ParseError} {z : Answer (Unit {0}) ParseError} → s ≡ Err x → z ≡ Err x → Reads (leading c true) r r₁ z
+    pub lines-end : {x : XbmPart} {z : Answer (Unit {0}) XbmPart} → s ≡ Err x → z ≡ Err x → Reads (leading c true) r r₁ z
     lines-end n u = leads-reads (record { kept = refl; same = skipped c h k }) (reads-refused (line_rest c) (λ a. leading c true) g n u)
 
 -- a line skipped leaves fewer bytes
@@ -174,7 +156,7 @@ line-less c t (b ∷ l) i q e h = go (eqb b 10) refl (λ u. line-less c t l (aft
     go true y ih = let z : ok tt q ≡ ok tt (after b i) = h ∙ line-newline c t i b e y in let w : q ≡ after b i = cc in rw (w, after-rest t i e) (omega arith)
     go false y ih = let a : length (rest t q) < length l = ih (h ∙ line_other c t i b e y) in omega arith
 
-pub lines-less : (c : ℕ) {r r₁ : TextReader} {s : Answer (Unit {0}) ParseError} → Reads (line_rest c) r r₁ s → s ≡ Ok tt → length (rest r₁.text.now r₁.location) < length (rest r.text.now r.location)
+pub lines-less : (c : ℕ) {r r₁ : TextReader} {s : Answer (Unit {0}) XbmPart} → Reads (line_rest c) r r₁ s → s ≡ Ok tt → length (rest r₁.text.now r₁.location) < length (rest r.text.now r.location)
 lines-less c {r} {r₁} g n =
     let a : ok tt r₁.location ≡ line_rest c r.text.now r.location = rw n at g.answer in
     rw g.kept (line-less c r.text.now (rest r.text.now r.location) r.location r₁.location refl a)
