@@ -22,7 +22,8 @@ fn report_of(place: TextLocation, data: u64) -> [u64; 10]
     [byte.0, line.0, column.0, 0, 0, 0, 0, data, start.0, 0]
 }
 
-// An answer and the decoder after it, as numbers, since C takes no others: 256, which no byte is, tells that none is left, and 9 a foreign decoder.
+// An answer and the decoder after it, as numbers, since C takes no others: 256, which no byte is, tells that none is left, and 9 a
+// foreign decoder.
 pub fn tell(
     answer: Result<Option<u8>, StreamError>,
     decoder: XbmStreamDecoder,

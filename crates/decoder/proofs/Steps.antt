@@ -12,12 +12,12 @@ use Rattle.std.specs.Prelude.{Some, None, Result as Answer, Ok, Err}
 use Rattle.text.specs.declared.TextLocation.{TextLocation}
 use Rattle.text.specs.declared.TextReader.{TextReader}
 use Rattle.text.specs.Place.{is_foreign}
-use Rattle.text.specs.Reader.{◌>>=◌, ◌>>◌}
+use Rattle.text.specs.Reader.{end_of, ◌>>=◌, ◌>>◌}
 use Rattle.text.specs.Leaf.{give}
 use Rattle.text.specs.Outcome.{Outcome, outcome}
-use Rattle.lexical.specs.declared.ParseError.{ParseError}
-use Rattle.lexical.specs.Reads.{Reads, told}
-use Rattle.lexical.proofs.Laws.{reads-then, reads-refused, reads-give}
+use Rattle.lexical.specs.declared.XbmPart.{XbmPart}
+use Rattle.lexical.specs.Reads.{Reads, told, broken}
+use Rattle.lexical.proofs.Laws.{reads-then, reads-refused, reads-give, refused-as}
 use Rattle.body.specs.Data.{item, trailer, bytes_of}
 use Rattle.decoder.specs.Step.{foreign, more, called, spent, placed_at, told_call, step_of}
 use Rattle.decoder.specs.declared.StreamError.{StreamError}
@@ -53,7 +53,7 @@ abbrev at : Bor (List ℕ) → XbmStreamDecoder → TextReader
 at s d = record { text = s; location = d.location }
 
 -- what is read, by whether a data byte is left
-module _ (d : XbmStreamDecoder) {w : Bool} (g : w ≡ more d) {r₀ r : TextReader} {z : Answer (Option ℕ) ParseError} where
+module _ (d : XbmStreamDecoder) {w : Bool} (g : w ≡ more d) {r₀ r : TextReader} {z : Answer (Option ℕ) XbmPart} where
   data-is : w ≡ true → Reads (item (eqb d.current_position 0) >>= λ b. give (some b)) r₀ r z → Reads (called d) r₀ r z
   unfolding called
   data-is l c = rw (← g, l) c
@@ -62,23 +62,28 @@ module _ (d : XbmStreamDecoder) {w : Bool} (g : w ≡ more d) {r₀ r : TextRead
   unfolding called
   end-is l c = rw (← g, l) c
 
-module _ {s : Bor (List ℕ)} (d : XbmStreamDecoder) {f : Bool} (e : f ≡ foreign s.now d) (h : f ≡ false) {w : Bool} (g : w ≡ more d) {r : TextReader} {q : TextLocation} (k : q ≡ r.location) where
-  read-is : {z : Answer (Option ℕ) ParseError} {a : Outcome (Option ℕ)} {p : ℕ} → Reads (called d) (at s d) r z → a ≡ outcome (λ b. b) (told z q) → p ≡ spent d → record { answer = a; decoder = placed_at d p q } ≡ step_of s.now d
-  unfolding step_of
-  read-is c n v = rw (← e, h, n, v, k, c.answer, c.stands)
+-- a reading ends where the reader then stands
+told-end : {A : Type 0} (z : Answer A XbmPart) (e : TextLocation) → end_of (told broken z e) ≡ e
+told-end (Ok a) e = refl
+told-end (Err x) e = refl
 
-  module _ (l : w ≡ true) {m : Answer ℕ ParseError} (c : Reads (item (eqb d.current_position 0)) (at s d) r m) where
+module _ {s : Bor (List ℕ)} (d : XbmStreamDecoder) {f : Bool} (e : f ≡ foreign s.now d) (h : f ≡ false) {w : Bool} (g : w ≡ more d) {r : TextReader} {q : TextLocation} (k : q ≡ r.location) where
+  read-is : {z : Answer (Option ℕ) XbmPart} {a : Outcome (Option ℕ)} {p : ℕ} → Reads (called d) (at s d) r z → a ≡ outcome (λ b. b) (told broken z q) → p ≡ spent d → record { answer = a; decoder = placed_at d p q } ≡ step_of s.now d
+  unfolding step_of
+  read-is {z} c n v = rw (← e, h, n, v, k, ← c.answer, told-end z r.location)
+
+  module _ (l : w ≡ true) {m : Answer ℕ XbmPart} (c : Reads (item (eqb d.current_position 0)) (at s d) r m) where
     pub step-byte : {b : ℕ} → m ≡ Ok b → told_call (Ok (Some b)) (placed_at d (d.current_position + 1) q) ≡ step_of s.now d
     step-byte n = read-is (data-is d g l (reads-then _ _ c n (reads-give refl))) refl (rw (← g, l))
 
-    pub step-wrong : {x : ParseError} {y : StreamError} → m ≡ Err x → y ≡ Parse x → told_call (Err y) (placed_at d (d.current_position + 1) q) ≡ step_of s.now d
+    pub step-wrong : {x : XbmPart} {y : StreamError} → m ≡ Err x → y ≡ Parse x → told_call (Err y) (placed_at d (d.current_position + 1) q) ≡ step_of s.now d
     step-wrong n u = read-is (data-is d g l (reads-refused _ _ c n refl)) (rw u) (rw (← g, l))
 
-  module _ (l : w ≡ false) {m : Answer (Unit {0}) ParseError} (c : Reads trailer (at s d) r m) where
+  module _ (l : w ≡ false) {m : Answer (Unit {0}) XbmPart} (c : Reads trailer (at s d) r m) where
     pub step-done : {u : Unit {0}} → m ≡ Ok u → told_call (Ok None) (placed_at d d.current_position q) ≡ step_of s.now d
     step-done n = read-is (end-is d g l (reads-then _ _ c n (reads-give refl))) refl (rw (← g, l))
 
-    pub step-bad : {x : ParseError} {y : StreamError} → m ≡ Err x → y ≡ Parse x → told_call (Err y) (placed_at d d.current_position q) ≡ step_of s.now d
+    pub step-bad : {x : XbmPart} {y : StreamError} → m ≡ Err x → y ≡ Parse x → told_call (Err y) (placed_at d d.current_position q) ≡ step_of s.now d
     step-bad n u = read-is (end-is d g l (reads-refused _ _ c n refl)) (rw u) (rw (← g, l))
 
-pub ruleset step_laws = (step-foreign, step-byte, step-wrong, step-done, step-bad)
+pub ruleset step_laws = (step-foreign, step-byte, step-wrong, step-done, step-bad, refused-as)

@@ -64,7 +64,8 @@ fn is_foreign(text: &[u8], d: XbmStreamDecoder) -> bool
 }
 
 // Read the next byte of the raw image data, or after the last one the trailer; the decoder that is lent goes on. A data byte counts as
-// asked for also where it is refused.
+// asked for also where it is refused. Where a rule is broken, the decoder stands at the refusal's place.
+#[tactic(auto, using(crate::proofs::Steps::step_laws))]
 pub fn next_byte(text: &[u8], decoder: &mut XbmStreamDecoder) -> Result<Option<u8>, StreamError>
     ensures { told_call result decoder.new ≡ step_of text.now decoder.old }
 {

@@ -1,28 +1,27 @@
 -- What a step of the code says of hex bytes.
 use mir.Syntax.{w8}
 use mir.Val.{Fits}
-use Prim.Native.Nat.{ℕ, zero, suc, ◌+◌, ◌*◌, ◌^◌, ◌<◌}
+use Prim.Native.Nat.{ℕ, zero, suc, ◌+◌, ◌*◌, ◌^◌, ◌≤◌, ◌<◌}
 use native.Mathlib.Omega.{arith}
-use borrow.Author.Tests.{ltb-true}
+use borrow.Author.Tests.{lt-ltb, le-ltb, ltb-true}
 use mathlib.Core.Path.{◌≡◌, refl, ap, ◌∙◌}
 use mathlib.Core.Option.{none, some}
 use mathlib.Core.List.{List, [], ◌∷◌}
 use mathlib.Core.Bool.{Bool, true, false}
 use lib.ListN.{length, get_or}
 use lib.Dec.{ltb}
-use Rattle.std.specs.Prelude.{Option as Value, Some, None, Result as Answer, Ok, Err}
+use Rattle.std.specs.Prelude.{Option as Value, Some, None, MatchOption, ok_or, Result as Answer, Ok}
 use Rattle.text.specs.declared.TextLocation.{TextLocation}
 use Rattle.text.specs.declared.TextReader.{TextReader}
 use Rattle.text.specs.Place.{pick, rest, after}
-use Rattle.text.specs.TextReader.{next_of, passed}
+use Rattle.text.specs.TextReader.{next_of, moved_on}
 use Rattle.text.specs.Reader.{ok}
 use Rattle.text.specs.Leaf.{one, first, judge}
-use Rattle.text.proofs.Laws.{reader_passed}
+use Rattle.text.proofs.Laws.{reader-moved}
 use Rattle.lexical.specs.declared.XbmPart.{XbmPart}
-use Rattle.lexical.specs.declared.ParseError.{ParseError}
-use Rattle.lexical.specs.Lexical.{number, broken}
+use Rattle.lexical.specs.Lexical.{number}
 use Rattle.lexical.specs.Reads.{Reads}
-use Rattle.lexical.proofs.Laws.{one-value, one-refusal, one-lacks}
+use Rattle.lexical.proofs.Laws.{one-value, one-refusal, one-lacks, unmoved}
 use Rattle.hexadecimal.specs.Hex.{hex_of, value_of, values_from, hex_table, hexv, hex_digit}
 
 -- what `hex_value` answers
@@ -43,26 +42,22 @@ module _ (b : ℕ) {r : Value ℕ} (e : r ≡ value_of b) where
       go true u = cc
       go false u = refl
 
--- a digit, looked at and then passed
-module _ (part : XbmPart) {r₀ : TextReader} {m : Value ℕ} (e : m ≡ next_of r₀) where
-  module _ {r₁ : TextReader} {b : ℕ} (h : m ≡ Some b) (l : length r₀.text.now * 1 < 2 ^ 63) (k : r₁ ≡ passed b r₀) {o : Value ℕ} (w : o ≡ value_of b) where
-    pub digit-is : {v : ℕ} → o ≡ Some v → Reads (hex_digit (number part)) r₀ r₁ (Ok v)
-    unfolding hex_digit
-    digit-is n = one-value (number part) hexv e h (reader_passed r₀ e h l k) (hex-is b w n)
+-- a digit, taken
+pub digit_taken : (part : XbmPart) (r₀ : TextReader) {r₁ : TextReader} {m : Value ℕ} (o : Value ℕ) {z : Answer ℕ XbmPart} → m ≡ next_of r₀ → length r₀.text.now * 1 < 2 ^ 63 → r₁ ≡ moved_on r₀ → MatchOption m (o ≡ None) (λ b. o ≡ value_of b)
+    → z ≡ ok_or o part → Reads (hex_digit (number part)) r₀ r₁ z
+unfolding hex_digit
+digit_taken part r₀ {r₁ = r₁} {m = m} o {z = z} e l k = go m refl
+  where
+    fin : (b : ℕ) → m ≡ Some b → o ≡ value_of b → (w : Value ℕ) → o ≡ w → z ≡ ok_or o part → Reads (one (number part) hexv) r₀ r₁ z
+    fin b h v None w t = rw (t, w) (one-refusal part hexv e h (reader-moved r₀ e h l k) (hex-none b v w))
+    fin b h v (Some d) w t = rw (t, w) (one-value part hexv e h (reader-moved r₀ e h l k) (hex-is b v w))
 
-    pub digit-not : {x : ParseError} → o ≡ None → x ≡ broken part r₁.location → Reads (hex_digit (number part)) r₀ r₁ (Err x)
-    unfolding hex_digit
-    digit-not n s =
-        one-refusal (number part) hexv e h (reader_passed r₀ e h l k) (ap (λ (x : ParseError). number x.part) s) (ap (λ (x : ParseError). x.place) s) (hex-none b w n)
-
-  pub digit-end : {x : ParseError} → m ≡ None → x ≡ broken part r₀.location → Reads (hex_digit (number part)) r₀ r₀ (Err x)
-  unfolding hex_digit
-  digit-end h s = one-lacks (number part) hexv e h (ap (λ (x : ParseError). number x.part) s) (ap (λ (x : ParseError). x.place) s)
-
-pub ruleset digit_laws = (digit-is, digit-not, digit-end)
+    go : (n : Value ℕ) → m ≡ n → MatchOption n (o ≡ None) (λ b. o ≡ value_of b) → z ≡ ok_or o part → Reads (one (number part) hexv) r₀ r₁ z
+    go None h v t = rw (t, v) (one-lacks part hexv e h (unmoved r₀ e k h))
+    go (Some b) h v t = fin b h v o refl t
 
 -- a digit that was read is below 16
-digit-small : (c : ℕ) {r₀ r₁ : TextReader} {m : Answer ℕ ParseError} {v : ℕ} → Reads (hex_digit c) r₀ r₁ m → m ≡ Ok v → v < 16
+digit-small : (c : ℕ) {r₀ r₁ : TextReader} {m : Answer ℕ XbmPart} {v : ℕ} → Reads (hex_digit c) r₀ r₁ m → m ≡ Ok v → v < 16
 unfolding hex_digit one hexv
 digit-small c {r₀} {r₁} {m} {v} e h = go (rest r₀.text.now r₀.location) (rw h at e.answer)
   where
@@ -74,11 +69,11 @@ digit-small c {r₀} {r₁} {m} {v} e h = go (rest r₀.text.now r₀.location) 
     go [] k = let z : ◌≡◌ {A = ℕ} 0 1 = cc in absurd (omega arith)
     go (b ∷ l) k = fin b (ltb (hex_of b) 16) refl (after b r₀.location) k
 
-module _ (c : ℕ) {r₀ r₁ : TextReader} {m : Answer ℕ ParseError} {v : ℕ} (e : Reads (hex_digit c) r₀ r₁ m) (h : m ≡ Ok v) where
+module _ (c : ℕ) {r₀ r₁ : TextReader} {m : Answer ℕ XbmPart} {v : ℕ} (e : Reads (hex_digit c) r₀ r₁ m) (h : m ≡ Ok v) where
   pub hi-fits : Fits w8 (v * 16)
   hi-fits = let a = digit-small c e h in omega arith
 
-  pub byte_fits : {r₂ r₃ : TextReader} {n : Answer ℕ ParseError} {w : ℕ} → Reads (hex_digit c) r₂ r₃ n → n ≡ Ok w → Fits w8 (v * 16 + w)
+  pub byte_fits : {r₂ r₃ : TextReader} {n : Answer ℕ XbmPart} {w : ℕ} → Reads (hex_digit c) r₂ r₃ n → n ≡ Ok w → Fits w8 (v * 16 + w)
   byte_fits f k = let a = digit-small c e h in let b = digit-small c f k in omega arith
 
 -- the table's rule, at each entry
@@ -87,6 +82,15 @@ values-at k zero b h = absurd (omega arith)
 values-at k (suc n) zero h = ap hex_of (omega arith)
 values-at k (suc n) (suc b) h = values-at (suc k) n b (omega arith) ∙ ap hex_of (omega arith)
 
-pub hex-there : (s : List ℕ) (b : ℕ) → s ≡ hex_table → b < 256 → get_or s b 0 ≡ hex_of b
+pub hex_there : (s : List ℕ) (b : ℕ) → s ≡ hex_table → b < 256 → get_or s b 0 ≡ hex_of b
 unfolding hex_table
-hex-there s b e h = rw e (values-at 0 256 b h ∙ ap hex_of (omega arith))
+hex_there s b e h = rw e (values-at 0 256 b h ∙ ap hex_of (omega arith))
+
+-- a digit by the table
+pub digit_there : (b : ℕ) {v : ℕ} → v ≡ hex_of b → v < 16 → Some v ≡ value_of b
+digit_there b {v} e h = rw (← e, lt-ltb v 16 h)
+
+pub digit_none : (b : ℕ) {v : ℕ} → v ≡ hex_of b → 16 ≤ v → None ≡ value_of b
+digit_none b {v} e h = rw (← e, le-ltb v 16 h)
+
+pub ruleset table_laws = (digit_there, digit_none, hex_there)

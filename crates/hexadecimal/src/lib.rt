@@ -12,7 +12,7 @@ use text::TextReader;
 
 mod hex_table;
 
-// A hex digit's value.
+// A hex digit's value. By ranges: `to_digit` is no plainer, since it takes a char and answers a u32.
 #[tactic(auto, using(std::proofs::lemmas::Bool::Decides::nat_tests), unfolding(crate::specs::Hex::hex_of))]
 pub fn hex_value(b: u8) -> Option<u8>
     ensures { result ≡ value_of b }
@@ -40,6 +40,7 @@ impl HexTable {
     }
 
     // A digit's value.
+    #[tactic(auto, using(crate::proofs::Hex::table_laws))]
     pub fn value_of(&self, b: u8) -> Option<u8>
         ensures { result ≡ value_of b }
     {
@@ -64,6 +65,7 @@ fn is_mark(b: u8) -> bool
 }
 
 // `0` and then `x` or `X`.
+#[tactic(auto, using(lexical::proofs::Laws::bind_then), unfolding(crate::specs::Hex::hex_start))]
 fn read_hex_start(r: &mut TextReader<'_>, part: XbmPart) -> Result<(), XbmPart>
     ensures { Reads (hex_start (number part)) r.old r.new result }
 {
@@ -72,6 +74,7 @@ fn read_hex_start(r: &mut TextReader<'_>, part: XbmPart) -> Result<(), XbmPart>
 }
 
 // Read a hex-encoded byte (e.g.: 0xA1).
+#[tactic(auto, using(lexical::proofs::Laws::bind_then), unfolding(crate::specs::Hex::hex_unit, crate::specs::Hex::hex_digits))]
 pub fn read_hex_byte(r: &mut TextReader<'_>, part: XbmPart) -> Result<u8, XbmPart>
     ensures { Reads (hex_byte (number part)) r.old r.new result }
 {

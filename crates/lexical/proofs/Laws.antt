@@ -38,6 +38,11 @@ number_small Trailing = omega arith
 pub refused-as : {A E : Type 0} {r : Answer A E} {x : E} → IsErrAnd r (λ e. e ≡ x) → r ≡ Err x
 refused-as {A} {E} {r} {x} h = let p = err_from_is_err_and {Q = λ e. e ≡ x} r h in p.1 ∙ ap (λ e. Err e) p.2
 
+-- one reading after another, as an equation
+pub bind_then : {A B : Type 0} (p : Reader A) (f : A → Reader B) (t : List ℕ) (i : TextLocation) → (p >>= f) t i ≡ then (p t i) (λ a e. f a t e)
+unfolding ◌>>=◌
+bind_then p f t i = refl
+
 -- nothing is read after a refusal
 then-refuse : {A B : Type 0} (w : Telling) (e : TextLocation) (k : A → TextLocation → Result B) → then (refuse w e) k ≡ refuse w e
 then-refuse (placed c) e k = refl

@@ -1,9 +1,9 @@
 -- `, 0xHH` read at once.
 use Prim.Native.Nat.{ℕ, ◌+◌, ◌*◌, ◌≤◌, ◌<◌, ◌^◌}
 use native.Mathlib.Omega.{arith}
-use mir.Syntax.{w8, w32, w64}
+use mir.Syntax.{w8, w32}
 use mir.Val.{Fits}
-use borrow.Author.Tests.{lt-ltb, le-ltb, ltb-true, leb-true, eqb-true, not-false}
+use borrow.Author.Tests.{lt-ltb, ltb-true, leb-true, eqb-true, not-false}
 use mathlib.Core.Path.{◌≡◌, refl, sym, ap, ◌∙◌}
 use mathlib.Core.List.{List, [], ◌∷◌}
 use mathlib.Core.Bool.{Bool, true, false, not}
@@ -20,25 +20,12 @@ use Rattle.text.specs.TextReader.{reaching, passed_along}
 use Rattle.text.specs.Rest.{Sound}
 use Rattle.text.proofs.Rest.{after-rest}
 use Rattle.text.proofs.PlaceLaws.{sound-rest, along-past}
-use Rattle.text.specs.Reader.{ok, Reader, ◌>>=◌}
+use Rattle.text.specs.Reader.{ok, ◌>>=◌}
 use Rattle.text.specs.Leaf.{one, run, give}
 use Rattle.lexical.specs.Lexical.{is_loose, is_blank, skip, byte, is, fixed}
 use Rattle.hexadecimal.specs.Hex.{hex_of, value_of, hexv, hex_digit, hex_start, hex_digits, hex_unit, is_mark}
 use Rattle.body.specs.Data.{item}
-use Rattle.hexadecimal.proofs.Hex.{hex-there}
 use Rattle.rows.specs.Quick.{Meets}
-
-pub missed : (p : Reader ℕ) {r₀ r₁ : TextReader} {m : Answered ℕ} → m ≡ None → r₁ ≡ r₀ → Meets p r₀ r₁ m
-missed p e k = record { kept = ap (λ r. r.text) k; hit = λ v h. cc; miss = λ h. k }
-
--- a digit by the table
-pub digit-there : (b : ℕ) {v : ℕ} → v ≡ hex_of b → v < 16 → Some v ≡ value_of b
-digit-there b {v} e h = rw (← e, lt-ltb v 16 h)
-
-pub digit-none : (b : ℕ) {v : ℕ} → v ≡ hex_of b → 16 ≤ v → None ≡ value_of b
-digit-none b {v} e h = rw (← e, le-ltb v 16 h)
-
-pub ruleset table_laws = (digit-there, digit-none, hex-there)
 
 -- what a digit is
 digit-is : (b : ℕ) {v : ℕ} → Some v ≡ value_of b → (v ≡ hex_of b) × (hex_of b < 16)
@@ -138,19 +125,12 @@ module _ (r₀ : TextReader) {z : Bool} (e : z ≡ reaching 6 r₀) (g : not z �
         drop_at t (byte_of p + 5) (byte_of p + 6) (omega arith) (omega arith),
       )
 
-  -- the six bytes are in the text
-  pub six-inside : (k : ℕ) → k < 6 → byte_of p + k < length t
-  six-inside k l = omega (arith, inside)
-
-  pub six-fits : (k : ℕ) → k < 6 → length t * 1 < 2 ^ 63 → Fits w64 (byte_of p + k)
-  six-fits k l m = record { fits = omega (arith, inside) }
-
   -- the four bytes before the digits are `, 0x`
-  pub quick-hit : {x hi lo : ℕ} {r₁ : TextReader} {ah al : Answered ℕ} → Sound p → length t * 1 < 2 ^ 63 → ((k : ℕ) → Fits w8 (get_or t k 0))
+  pub quick_hit : {x hi lo : ℕ} {r₁ : TextReader} {ah al : Answered ℕ} → Sound p → length t * 1 < 2 ^ 63 → ((k : ℕ) → Fits w8 (get_or t k 0))
       → x ≡ from_le_bytes w32 (get_or t (byte_of p) 0 ∷ get_or t (byte_of p + 1) 0 ∷ get_or t (byte_of p + 2) 0 ∷ get_or t (byte_of p + 3) 0 ∷ []) → x ≡ 2016419884
       → ah ≡ value_of (get_or t (byte_of p + 4) 0) → ah ≡ Some hi → al ≡ value_of (get_or t (byte_of p + 5) 0) → al ≡ Some lo → r₁ ≡ passed_along 6 r₀
       → Meets (item false) r₀ r₁ (Some (hi * 16 + lo))
-  quick-hit {hi = hi} {lo} sound room bytes four same eh hh el hl to =
+  quick_hit {hi = hi} {lo} sound room bytes four same eh hh el hl to =
       let i : byte_of p + 6 ≤ length t = inside in
       let (c0, c1, c2, c3) = mark-is (get_or t (byte_of p) 0) (get_or t (byte_of p + 1) 0) (get_or t (byte_of p + 2) 0) (get_or t (byte_of p + 3) 0) (bytes _).fits (bytes _).fits (bytes _).fits (bytes _).fits (sym four ∙ same) in
       let (vh, u) = digit-is (get_or t (byte_of p + 4) 0) (sym hh ∙ eh) in
@@ -163,5 +143,3 @@ module _ (r₀ : TextReader) {z : Bool} (e : z ≡ reaching 6 r₀) (g : not z �
         hit = λ v y. rw (to, ← same-value y) d;
         miss = λ y. cc;
       }
-
-pub ruleset quick_laws = (missed, six-inside, six-fits, quick-hit)

@@ -34,7 +34,8 @@ told_rows (Ok u) e = accepted tt
 told_rows (Err (Parse part)) e = refused (number part) e
 told_rows (Err DimensionMismatch) e = unplaced 31
 
--- reading the rows of a picture w wide and h high with the reader old: the answer, with the place where new stands, and what the buffer holds later
+-- reading the rows of a picture w wide and h high with the reader old: the answer, with the place where new stands,
+-- and what the buffer holds later
 pub record Filled (w h : ℕ) (old new : TextReader) (lent later : List ℕ) (r : Answer (Unit {0}) RowsError) : Type 0 where
   pub kept : new.text ≡ old.text
   pub answer : told_rows r new.location ≡ outcome (λ l. tt) (whole w h (length lent) old.text.now old.location)

@@ -4,7 +4,6 @@
 ghost use Rattle.std.specs.Prelude.{◌≡◌, false};
 ghost use Rattle.text.specs.Rest.{Sound};
 ghost use Rattle.lexical.specs.Reads.{Reads};
-ghost use Rattle.hexadecimal.specs.Hex.{value_of, hex_table};
 ghost use Rattle.body.specs.Data.{item};
 ghost use Rattle.rows.specs.declared.RowsError.TheVariants.{Parse};
 ghost use Rattle.rows.specs.Quick.{Meets};
@@ -16,7 +15,8 @@ use hexadecimal::HexTable;
 use lexical::XbmPart;
 use text::TextReader;
 
-// What ends a picture's rows: a rule that is broken where the reader then stands, or rows of the buffer that are not the picture's.
+// What ends a picture's rows: a rule that is broken where the reader then stands, or rows of the buffer that are not the picture's. The
+// decoder's `StreamError` stays apart: the other case of each is its own, 31 here and a foreign decoder there.
 #[derive(Clone, Copy, Debug, PartialEq, Eq)]
 pub enum RowsError {
     Parse(XbmPart),
@@ -85,6 +85,7 @@ pub fn read_rows(
     let across = w.div_ceil(8);
     let table = HexTable::new();
     let mut first = true;
+    // By an index: of what `chunks_mut` has left only the length is known, so that nothing could be said of the cells.
     for y in 0..rows.min(h) {
         for j in 0..across {
             let v = next_data(r, first, &table)?;

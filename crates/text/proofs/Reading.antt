@@ -5,27 +5,9 @@ use mathlib.Core.Option.{Option, none, some}
 use Rattle.std.specs.Prelude.{Option as Taken, Some, None}
 use Rattle.text.specs.declared.TextLocation.{TextLocation}
 use Rattle.text.specs.Place.{after, peeked_at}
-use Rattle.text.specs.Reader.{Result, ok, stop, bad, Reader, ◌>>=◌}
-use Rattle.text.specs.Leaf.{one, run, Move, go_on, stay, halt, give, fork}
+use Rattle.text.specs.Reader.{Result, ok, stop, Reader}
+use Rattle.text.specs.Leaf.{one, run, Move, go_on, stay, halt, fork}
 use Rattle.text.proofs.Laws.{next-rest, end_rest}
-
--- one reading after another
-module _ {A B : Type 0} (p : Reader A) (f : A → Reader B) (t : List ℕ) (i : TextLocation) where
-  pub bind_ok : {a : A} {m : TextLocation} {z : Result B} → ok a m ≡ p t i → z ≡ f a t m → z ≡ (p >>= f) t i
-  unfolding ◌>>=◌
-  bind_ok e h = rw (← e) h
-
-  pub bind-stop : {c : ℕ} {m : TextLocation} {z : Result B} → stop c m ≡ p t i → z ≡ stop c m → z ≡ (p >>= f) t i
-  unfolding ◌>>=◌
-  bind-stop e h = rw (← e) h
-
-  pub bind-bad : {c : ℕ} {m : TextLocation} {z : Result B} → bad c m ≡ p t i → z ≡ bad c m → z ≡ (p >>= f) t i
-  unfolding ◌>>=◌
-  bind-bad e h = rw (← e) h
-
-pub give-ok : {A : Type 0} (a : A) (t : List ℕ) (i : TextLocation) {v : A} → v ≡ a → ok v i ≡ give a t i
-unfolding give
-give-ok a t i e = rw e
 
 -- a byte
 module _ {A : Type 0} (c : ℕ) (g : ℕ → Option A) (t : List ℕ) (i : TextLocation) {r : Taken ℕ} (e : r ≡ peeked_at t i) where
@@ -59,8 +41,6 @@ module _ {A : Type 0} (c x : ℕ) (p : Reader A) (y : ℕ) (q : Reader A) (t : L
   unfolding fork
   fork-end m k = rw (end_rest t i e m) k
 
-pub ruleset fork_laws = (fork-first, fork-second, fork-neither, fork-end)
-
 -- a run; z is what the whole run gives
 module _ {S A : Type 0} (c : ℕ) (step : S → ℕ → Move S A) (fin : S → Option A) (s : S) (t : List ℕ) (i : TextLocation) {z : Result A} {r : Taken ℕ} (e : r ≡ peeked_at t i) where
   pub run_on : {b : ℕ} {s' : S} → r ≡ Some b → step s b ≡ go_on s' → run c step fin s t i ≡ z → run c step fin s' t (after b i) ≡ z
@@ -78,9 +58,3 @@ module _ {S A : Type 0} (c : ℕ) (step : S → ℕ → Move S A) (fin : S → O
   pub run_end : {a : A} → r ≡ None → fin s ≡ some a → run c step fin s t i ≡ z → ok a i ≡ z
   unfolding run
   run_end m h k = rw (end_rest t i e m, h) at k
-
-  pub run-lacks : r ≡ None → fin s ≡ none → run c step fin s t i ≡ z → stop c i ≡ z
-  unfolding run
-  run-lacks m h k = rw (end_rest t i e m, h) at k
-
-pub ruleset bind_laws = (bind_ok, bind-stop, bind-bad, give-ok)

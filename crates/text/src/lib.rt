@@ -36,7 +36,6 @@ pub struct TextLocation {
 }
 
 // A place at the start of a line.
-#[inline(always)]
 fn at_line_start(byte: u64, line: u64) -> TextLocation
     ensures { result ≡ at_line_start byte line }
 {
@@ -49,8 +48,7 @@ fn at_line_start(byte: u64, line: u64) -> TextLocation
 }
 
 // The place where a text starts.
-#[inline(always)]
-pub fn beginning() -> TextLocation
+fn beginning() -> TextLocation
     ensures { result ≡ start }
 {
     at_line_start(0, 1)
@@ -78,7 +76,7 @@ fn is_sound(place: TextLocation) -> bool
 }
 
 // The place n bytes on within a line. Past 2 ^ 64 bytes, which no text has, the sums wrap; so below.
-pub fn along(place: TextLocation, n: u64) -> TextLocation
+fn along(place: TextLocation, n: u64) -> TextLocation
     ensures { result ≡ along_line place n }
 {
     TextLocation {
@@ -90,7 +88,7 @@ pub fn along(place: TextLocation, n: u64) -> TextLocation
 }
 
 // The place past n more bytes of a line and its newline.
-pub fn past_line(place: TextLocation, n: u64) -> TextLocation
+fn past_line(place: TextLocation, n: u64) -> TextLocation
     ensures { result ≡ past_line place n }
 {
     let end = place.byte.0.wrapping_add(n);
@@ -98,7 +96,7 @@ pub fn past_line(place: TextLocation, n: u64) -> TextLocation
 }
 
 // The place past one byte, which is b.
-pub fn past_byte(place: TextLocation, b: u8) -> TextLocation
+fn past_byte(place: TextLocation, b: u8) -> TextLocation
     ensures { result ≡ past_byte place b }
 {
     if b == b'\n' {
@@ -115,10 +113,8 @@ pub struct TextReader<'a> {
     pub location: TextLocation,
 }
 
-// Hints on inlining, here and where a byte is read, are for speed: without them a data byte takes a tenth more instructions.
 impl<'a> TextReader<'a> {
     // Initialize a TextReader.
-    #[inline(always)]
     pub fn new(text: &'a [u8]) -> TextReader<'a>
         ensures { (result.text ≡ text.entry) × (result.location ≡ start) }
     {
@@ -135,7 +131,8 @@ impl<'a> TextReader<'a> {
         self.location
     }
 
-    // Whether the text has no such place: a byte past its end, a start that is not the byte less the column, or a line that so few bytes do not reach.
+    // Whether the text has no such place: a byte past its end, a start that is not the byte less the column, or a line that so few bytes
+    // do not reach.
     pub fn is_foreign(&self) -> bool
         ensures { result ≡ foreign self.now }
     {
@@ -181,7 +178,7 @@ impl<'a> TextReader<'a> {
     }
 
     // Peek at the next byte. At the end, nothing.
-    #[inline(always)]
+    #[tactic(auto, using(crate::proofs::Laws::peek_laws))]
     pub fn peek(&self) -> Option<u8>
         ensures { result ≡ next_of self.now }
     {
@@ -206,7 +203,6 @@ impl<'a> TextReader<'a> {
     }
 
     // Past the byte b, which was looked at.
-    #[inline(always)]
     pub fn pass(&mut self, b: u8)
         ensures { self.new ≡ passed b self.old }
     {

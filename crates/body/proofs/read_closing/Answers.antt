@@ -6,7 +6,7 @@ use Rattle.body.proofs.read_closing.Goals as goal
 
 pub returns-in_err-read_brace : goal.returns-in_err-read_brace
 unfolding closing
-returns-in_err-read_brace c = search (reads_laws, c.in_err-read_brace.was, refused-as c.from_residual.ensures.1, rules)
+returns-in_err-read_brace c = search (reads_laws, refused-as c.from_residual.ensures.1, rules)
 
 pub returns : goal.returns
 unfolding closing

@@ -2,11 +2,7 @@
 use Rattle.std.proofs.Common.{rules}
 use Rattle.lexical.specs.Lexical.{is}
 use Rattle.lexical.proofs.Laws.{reads_laws}
-use Rattle.body.proofs.Laws.{separator-at-once}
 use Rattle.body.proofs.read_separator.Goals as goal
-
-pub returns-then-eq : goal.returns-then-eq
-returns-then-eq c = search (separator-at-once, rules)
 
 pub returns : goal.returns
 returns c =

@@ -1,13 +1,7 @@
 -- What the search leaves of `read_hex_digit`.
 use Rattle.std.proofs.Common.{rules}
-use Rattle.hexadecimal.proofs.Hex.{digit_laws}
+use Rattle.hexadecimal.proofs.Hex.{digit_taken}
 use Rattle.hexadecimal.proofs.read_hex_digit.Goals as goal
 
-pub returns-in_default : goal.returns-in_default
-returns-in_default c = search (digit_laws, rules)
-
-pub returns-in-Some-hex_value : goal.returns-in-Some-hex_value
-returns-in-Some-hex_value c = search (digit_laws, rules)
-
-pub returns-in-None : goal.returns-in-None
-returns-in-None c = search (digit_laws, rules)
+pub returns : goal.returns
+returns c = digit_taken c.args.part _ c.and_then.result c.next.ensures.0 (search rules) c.next.ensures.1 c.and_then.ensures c.ok_or.ensures.value

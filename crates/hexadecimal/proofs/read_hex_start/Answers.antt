@@ -1,12 +1,8 @@
 -- What the search leaves of `read_hex_start`.
 use Rattle.std.proofs.Common.{rules}
-use Rattle.lexical.proofs.Laws.{reads_laws, refused-as}
+use Rattle.lexical.proofs.Laws.{reads_laws}
 use Rattle.hexadecimal.specs.Hex.{hex_start, is_mark}
 use Rattle.hexadecimal.proofs.read_hex_start.Goals as goal
-
-pub returns-in_err-read_fixed_string : goal.returns-in_err-read_fixed_string
-unfolding hex_start
-returns-in_err-read_fixed_string c = search (reads_laws, c.in_err-read_fixed_string.was, refused-as c.from_residual.ensures.1, rules)
 
 pub returns : goal.returns
 unfolding hex_start
