@@ -15,7 +15,7 @@ use text::TextReader;
 const MAX_INTEGER_LENGTH: usize = 11;
 
 // A gap, an integer token, and the line's end.
-#[tactic(auto, using(symbol::proofs::Laws::bind_then), unfolding(text::specs::Leaf::give))]
+#[tactic(auto, using(lexical::proofs::Laws::bind_then), unfolding(text::specs::Leaf::give))]
 pub fn read_value<'a>(r: &mut TextReader<'a>, part: XbmPart) -> Result<&'a [u8], XbmPart>
     ensures { Reads (value (number part) give) r.old r.new (lent result) }
 {
@@ -27,7 +27,7 @@ pub fn read_value<'a>(r: &mut TextReader<'a>, part: XbmPart) -> Result<&'a [u8],
 
 // `#define`, a gap, and the symbol made of the name and an ending. Name, ending and part stay three: each call of `read_define_line`
 // names them once, so a struct of them would be made and taken apart at once.
-#[tactic(auto, using(symbol::proofs::Laws::bind_then), unfolding(crate::specs::Lines::symbol))]
+#[tactic(auto, using(lexical::proofs::Laws::bind_then), unfolding(crate::specs::Lines::symbol))]
 fn read_symbol(
     r: &mut TextReader<'_>,
     name: &[u8],
@@ -43,7 +43,7 @@ fn read_symbol(
 }
 
 // A define line: its symbol, and then its integer token, which the caller parses.
-#[tactic(auto, using(symbol::proofs::Laws::bind_then), unfolding(crate::specs::Lines::define_line))]
+#[tactic(auto, using(lexical::proofs::Laws::bind_then), unfolding(crate::specs::Lines::define_line))]
 pub fn read_define_line<'a>(
     r: &mut TextReader<'a>,
     name: &[u8],
@@ -57,7 +57,7 @@ pub fn read_define_line<'a>(
 }
 
 // `unsigned`, a gap and `char`.
-#[tactic(auto, using(symbol::proofs::Laws::bind_then))]
+#[tactic(auto, using(lexical::proofs::Laws::bind_then))]
 fn read_unsigned_char(r: &mut TextReader<'_>, part: XbmPart) -> Result<(), XbmPart>
     ensures { Reads (unsigned_char (number part)) r.old r.new result }
 {
@@ -82,7 +82,7 @@ fn read_element(r: &mut TextReader<'_>, part: XbmPart) -> Result<(), XbmPart>
 }
 
 // The line that opens the array.
-#[tactic(auto, using(symbol::proofs::Laws::bind_then), unfolding(crate::specs::Lines::array_line))]
+#[tactic(auto, using(lexical::proofs::Laws::bind_then), unfolding(crate::specs::Lines::array_line))]
 pub fn read_array_line(r: &mut TextReader<'_>, name: &[u8], part: XbmPart) -> Result<(), XbmPart>
     ensures { Reads (array_line (number part) name.now) r.old r.new result }
 {

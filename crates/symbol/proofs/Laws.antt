@@ -1,6 +1,6 @@
 -- What a step of the code says of the width's symbol.
 use Prim.Native.Nat.{ℕ, ◌≤◌}
-use mathlib.Core.Path.{◌≡◌, refl, sym, ap}
+use mathlib.Core.Path.{◌≡◌, sym, ap}
 use mathlib.Core.List.{List}
 use lib.ListN.{length, take, drop}
 use lib.Seq.{length-take-le}
@@ -8,11 +8,10 @@ use Rattle.std.specs.Prelude.{Result as Answer, Ok, Err}
 use Rattle.std.specs.Borrow.{Bor}
 use Rattle.std.proofs.Common.{length-take}
 use Rattle.std.proofs.lemmas.List.{take-append-le}
-use Rattle.text.specs.declared.TextLocation.{TextLocation}
-use Rattle.text.specs.Reader.{then, Reader, ◌>>=◌}
 use Rattle.lexical.specs.declared.XbmPart.{XbmPart}
 use Rattle.lexical.specs.Reads.{lent}
 use Rattle.symbol.specs.Symbol.{size_of}
+use Rattle.lexical.proofs.Laws.{bind_then}
 use Rattle.symbol.proofs.Ends.{ends_pointwise}
 use Rattle.symbol.proofs.Taken.{token_span, token_fits, token_bytes}
 
@@ -26,11 +25,7 @@ module _ {m : Answer (Bor (List ℕ)) XbmPart} where
 
 pub ruleset lent_laws = (lent_ok, lent_err)
 
--- one reader after another, by what the first gives
-pub bind_then : {A B : Type 0} (p : Reader A) (f : A → Reader B) (t : List ℕ) (i : TextLocation) → (p >>= f) t i ≡ then (p t i) (λ a e. f a t e)
-unfolding ◌>>=◌
-bind_then p f t i = refl
-
+-- the width's symbol: what opens it, its token, its ending
 pub ruleset symbol_laws = (bind_then, token_span, token_fits, token_bytes, ends_pointwise, take-append-le, length-take)
 
 -- what was stored is within the buffer

@@ -57,6 +57,7 @@ reached-span t p q w = go (rest t p) refl w
     go [] e w = grind (arith, walk-none w)
     go (b ∷ l) e w = rw (sound-rest t p (rest-sound t p e))
 
+-- an answer's place is where the reader stands
 told-place : {A : Type 0} (m : Answer A XbmPart) (e : TextLocation) → end_of (told broken m e) ≡ e
 told-place (Ok a) e = refl
 told-place (Err x) e = refl

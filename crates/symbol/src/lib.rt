@@ -20,7 +20,7 @@ pub fn name_buffer() -> [u8; MAX_IDENTIFIER_LENGTH]
 }
 
 // What precedes the width's symbol: leading lines, `#define`, a gap.
-#[tactic(auto, using(crate::proofs::Laws::bind_then), unfolding(crate::specs::Symbol::opening))]
+#[tactic(auto, using(lexical::proofs::Laws::bind_then), unfolding(crate::specs::Symbol::opening))]
 fn read_opening(r: &mut TextReader<'_>) -> Result<(), XbmPart>
     ensures { Reads opening r.old r.new result }
 {
