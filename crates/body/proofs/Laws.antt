@@ -1,7 +1,7 @@
 -- What a step of the code says of data bytes and of the trailer.
 use Prim.Native.Nat.{ℕ, ◌*◌, ◌^◌, ◌<◌}
 use lib.Dec.{eqb}
-use mathlib.Core.Path.{◌≡◌, refl, sym, ap, ◌∙◌}
+use mathlib.Core.Path.{◌≡◌, refl, ap}
 use mathlib.Core.List.{List, [], ◌∷◌}
 use lib.ListN.{length}
 use mathlib.Core.Bool.{Bool, true, false}
@@ -21,50 +21,46 @@ use Rattle.body.specs.Data.{item, brace}
 use Rattle.body.specs.Code.{separator, ended}
 
 -- the end of the text
-module _ (t : List ℕ) (i : TextLocation) {m : Taken ℕ} (e : m ≡ peeked_at t i) where
-  pub end-here : m ≡ None → ended t i ≡ ok tt (onward_at t i)
+module _ (t : List ℕ) (i : TextLocation) where
+  pub end-here : peeked_at t i ≡ None → ended t i ≡ ok tt (onward_at t i)
   unfolding eot
-  end-here h = rw (end_rest t i e h)
+  end-here h = rw (end_rest t i refl h)
 
-  pub end-later : {b : ℕ} → m ≡ Some b → ended t i ≡ stop 8 (onward_at t i)
+  pub end-later : {b : ℕ} → peeked_at t i ≡ Some b → ended t i ≡ stop 8 (onward_at t i)
   unfolding eot
-  end-later h = rw (next-rest t i e h)
+  end-later h = rw (next-rest t i refl h)
 
 pub ruleset end_laws = (end-here, end-later)
 
--- a byte that was looked for comes
-looked : (b : ℕ) (m : Taken ℕ) {w : Bool} → w ≡ option_eq eqb m (Some b) → w ≡ true → m ≡ Some b
-looked b None e h = cc
-looked b (Some x) e h = ap (λ x. Some x) (eqb-true x b (sym e ∙ h))
+-- a comma that was looked for comes
+pub looked : (m : Taken ℕ) → option_eq eqb m (Some 44) ≡ true → m ≡ Some 44
+looked None h = cc
+looked (Some b) h = ap (λ b. Some b) (eqb-true b 44 h)
 
--- where a comma was looked for, and then passed
-module _ (t : List ℕ) (i : TextLocation) {m : Taken ℕ} {w : Bool} (e : m ≡ peeked_at t i) (o : w ≡ option_eq eqb m (Some 44)) (h : w ≡ true) (l : length t * 1 < 2 ^ 63) where
+-- where a comma stands, and is passed
+module _ (t : List ℕ) (i : TextLocation) (h : peeked_at t i ≡ Some 44) (l : length t * 1 < 2 ^ 63) where
   -- between two data bytes it stands at once
-  pub separator_at_once : separator t i ≡ ok tt (past_byte i 44)
+  pub separator-at-once : separator t i ≡ ok tt (past_byte i 44)
   unfolding skip run is_loose is_blank byte one ◌>>=◌
-  separator_at_once =
-      let c = looked 44 m o h in
-      let n = next-rest t i e c in
-      rw (next_past t i e c l, n, n)
+  separator-at-once = let n = next-rest t i refl h in rw (next_past t i refl h l, n, n)
 
   pub brace-comma : brace t i ≡ (skip is_loose >> fixed 7 (125 ∷ [])) t (past_byte i 44)
   unfolding brace fork byte one ◌>>=◌
-  brace-comma =
-      let c = looked 44 m o h in
-      let n = next-rest t i e c in
-      rw (next_past t i e c l, n, n)
+  brace-comma = let n = next-rest t i refl h in rw (next_past t i refl h l, n, n)
+
+pub ruleset separator_laws = (looked, separator-at-once)
 
 -- the brace where no comma stands
-pub brace-plain : (t : List ℕ) (i : TextLocation) (m : Taken ℕ) {w : Bool} → m ≡ peeked_at t i → w ≡ option_eq eqb m (Some 44) → w ≡ false → brace t i ≡ fixed 7 (125 ∷ []) t i
+pub brace-plain : (t : List ℕ) (i : TextLocation) (m : Taken ℕ) → m ≡ peeked_at t i → option_eq eqb m (Some 44) ≡ false → brace t i ≡ fixed 7 (125 ∷ []) t i
 unfolding brace fork fixed byte one ◌>>=◌
-brace-plain t i None e o h = rw (end_rest t i e refl)
-brace-plain t i (Some b) e o h = go (eqb b 125) refl
+brace-plain t i None e h = rw (end_rest t i e refl)
+brace-plain t i (Some b) e h = go (eqb b 125) refl
   where
     go : (y : Bool) → eqb b 125 ≡ y → brace t i ≡ fixed 7 (125 ∷ []) t i
-    go true f = rw (next-rest t i e refl, sym o ∙ h, f, next-rest t i e refl, f)
-    go false f = rw (next-rest t i e refl, sym o ∙ h, f)
+    go true f = let n = next-rest t i e refl in rw (n, h, f, n, f)
+    go false f = rw (next-rest t i e refl, h, f)
 
-pub ruleset brace_laws = (bind_then, brace-comma, brace-plain)
+pub ruleset brace_laws = (bind_then, looked, brace-comma, brace-plain)
 
 -- a data byte by whether it is the first
 pub item_is : (f : Bool) (t : List ℕ) (i : TextLocation) → item f t i ≡ pick f ((skip is_loose >> hex_byte 6) t i) ((skip is_loose >> byte 6 (is 44) >> skip is_loose >> hex_byte 6) t i)
