@@ -1,4 +1,5 @@
--- The reading of pixels from a text: what it answers, and what the two lent buffers hold after it. All contracts above the header cite this.
+-- The reading of pixels from a text: what it answers, and what the two lent buffers hold after it. All contracts above the header
+-- cite this.
 use Rattle.std.specs.Prelude.{◌≡◌, ℕ, ◌≤◌, true, List, [], length, take, None, Result as Answer, Ok, Err}
 use Rattle.text.specs.declared.TextLocation.{TextLocation}
 use Rattle.text.specs.Place.{start}

@@ -81,7 +81,8 @@ impl From<LimitedError> for Refusal {
     }
 }
 
-// The picture read, or why it is not; and the name's length, 0 if the header is refused: its bytes stand at the start of the lent buffer, which no answer borrows.
+// The picture read, or why it is not; and the name's length, 0 if the header is refused: its bytes stand at the start of the lent
+// buffer, which no answer borrows.
 #[derive(Clone, Copy, Debug, PartialEq, Eq)]
 pub struct ImageAnswer<E> {
     pub image: Result<XbmHeaderData, E>,
@@ -136,8 +137,9 @@ fn read_bounded(
     Ok(read_picture(r, header, &mut cells[..size])?)
 }
 
-// The pixels of a text, its header first, into the first width times height of the cells lent; above the limit on these only the header is read.
-// The arms stand here again: of a buffer that a closure borrowed nothing is known, and one function for both has a longer contract.
+// The pixels of a text, its header first, into the first width times height of the cells lent; above the limit on these only the header
+// is read. The arms stand here again: of a buffer that a closure borrowed nothing is known, and one function for both has a longer
+// contract.
 #[tactic(auto, using(std::proofs::lemmas::Grind::common_steps, crate::proofs::Limit::headed_read), unfolding(crate::specs::Limited::limited, crate::specs::Limited::after_header))]
 fn read_limited(
     text: &[u8],
