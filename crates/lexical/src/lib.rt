@@ -1,4 +1,5 @@
-// The lexical readers: each takes bytes off a text reader, and answers what it read, or a refusal with its place.
+// The lexical readers: each takes bytes off a text reader, and answers what it read, or the part whose rule is broken where the reader
+// then stands. As in the original each is lent the reader and told the part.
 #![tactic(auto)]
 
 ghost use Rattle.std.specs.Prelude.{◌≡◌, ℕ, Bool, Ok};
