@@ -1,11 +1,10 @@
 -- What a step of the code says of data bytes and of the trailer.
 use Prim.Native.Nat.{ℕ, ◌*◌, ◌^◌, ◌<◌}
 use lib.Dec.{eqb}
-use mathlib.Core.Path.{◌≡◌, refl, ap}
+use mathlib.Core.Path.{◌≡◌, refl}
 use mathlib.Core.List.{List, [], ◌∷◌}
 use lib.ListN.{length}
 use mathlib.Core.Bool.{Bool, true, false}
-use Rattle.std.proofs.Common.{eqb-true}
 use Rattle.std.specs.Option.{option_eq}
 use Rattle.std.specs.Prelude.{Option as Taken, Some, None}
 use Rattle.text.specs.declared.TextLocation.{TextLocation}
@@ -32,23 +31,16 @@ module _ (t : List ℕ) (i : TextLocation) where
 
 pub ruleset end_laws = (end-here, end-later)
 
--- a comma that was looked for comes
-pub looked : (m : Taken ℕ) → option_eq eqb m (Some 44) ≡ true → m ≡ Some 44
-looked None h = cc
-looked (Some b) h = ap (λ b. Some b) (eqb-true b 44 h)
-
 -- where a comma stands, and is passed
 module _ (t : List ℕ) (i : TextLocation) (h : peeked_at t i ≡ Some 44) (l : length t * 1 < 2 ^ 63) where
   -- between two data bytes it stands at once
-  pub separator-at-once : separator t i ≡ ok tt (past_byte i 44)
+  pub separator_at_once : separator t i ≡ ok tt (past_byte i 44)
   unfolding skip run is_loose is_blank byte one ◌>>=◌
-  separator-at-once = let n = next-rest t i refl h in rw (next_past t i refl h l, n, n)
+  separator_at_once = let n = next-rest t i refl h in rw (next_past t i refl h l, n, n)
 
   pub brace-comma : brace t i ≡ (skip is_loose >> fixed 7 (125 ∷ [])) t (past_byte i 44)
   unfolding brace fork byte one ◌>>=◌
   brace-comma = let n = next-rest t i refl h in rw (next_past t i refl h l, n, n)
-
-pub ruleset separator_laws = (looked, separator-at-once)
 
 -- the brace where no comma stands
 pub brace-plain : (t : List ℕ) (i : TextLocation) (m : Taken ℕ) → m ≡ peeked_at t i → option_eq eqb m (Some 44) ≡ false → brace t i ≡ fixed 7 (125 ∷ []) t i
@@ -60,7 +52,7 @@ brace-plain t i (Some b) e h = go (eqb b 125) refl
     go true f = let n = next-rest t i e refl in rw (n, h, f, n, f)
     go false f = rw (next-rest t i e refl, h, f)
 
-pub ruleset brace_laws = (bind_then, looked, brace-comma, brace-plain)
+pub ruleset brace_laws = (bind_then, brace-comma, brace-plain)
 
 -- a data byte by whether it is the first
 pub item_is : (f : Bool) (t : List ℕ) (i : TextLocation) → item f t i ≡ pick f ((skip is_loose >> hex_byte 6) t i) ((skip is_loose >> byte 6 (is 44) >> skip is_loose >> hex_byte 6) t i)
