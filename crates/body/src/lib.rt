@@ -25,7 +25,7 @@ fn read_separator(r: &mut TextReader<'_>) -> Result<(), XbmPart>
 }
 
 // One data byte. Before the first of a picture stands no separator; a closure in place of `first` would be no plainer.
-#[tactic(auto, using(crate::proofs::Laws::item_laws))]
+#[tactic(auto, using(lexical::proofs::Laws::bind_then, crate::proofs::Laws::item_is))]
 pub fn read_data_byte(r: &mut TextReader<'_>, first: bool) -> Result<u8, XbmPart>
     ensures { Reads (item first) r.old r.new result }
 {
@@ -37,6 +37,7 @@ pub fn read_data_byte(r: &mut TextReader<'_>, first: bool) -> Result<u8, XbmPart
 }
 
 // One comma at most, and `}`.
+#[tactic(auto, using(crate::proofs::Laws::brace_laws))]
 fn read_brace(r: &mut TextReader<'_>) -> Result<(), XbmPart>
     ensures { Reads brace r.old r.new result }
 {
@@ -59,6 +60,7 @@ fn read_end(r: &mut TextReader<'_>) -> Result<(), XbmPart>
 }
 
 // What follows the last data byte, up to `;`.
+#[tactic(auto, using(lexical::proofs::Laws::bind_then), unfolding(crate::specs::Data::closing))]
 fn read_closing(r: &mut TextReader<'_>) -> Result<(), XbmPart>
     ensures { Reads closing r.old r.new result }
 {
@@ -69,7 +71,7 @@ fn read_closing(r: &mut TextReader<'_>) -> Result<(), XbmPart>
 }
 
 // Read optional comma, followed by final `};`, then loose space and the end.
-#[tactic(auto, using(crate::proofs::Laws::part_laws), unfolding(crate::specs::Data::trailer, crate::specs::Data::tail))]
+#[tactic(auto, using(lexical::proofs::Laws::bind_then), unfolding(crate::specs::Data::trailer, crate::specs::Data::tail))]
 pub fn read_trailer(r: &mut TextReader<'_>) -> Result<(), XbmPart>
     ensures { Reads trailer r.old r.new result }
 {

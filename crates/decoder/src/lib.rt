@@ -49,7 +49,7 @@ fn has_more(d: XbmStreamDecoder) -> bool
 }
 
 // Whether the decoder has numbers that no header of this text gave.
-#[tactic(auto, using(crate::proofs::Steps::foreign_laws))]
+#[tactic(auto, unfolding(crate::specs::Step::foreign))]
 fn is_foreign(text: &[u8], d: XbmStreamDecoder) -> bool
     ensures { result ≡ foreign text.now d }
 {

@@ -22,6 +22,7 @@ fn line_end(text: &[u8], from: usize) -> Option<usize>
 }
 
 // The rest of a line, with its newline.
+#[tactic(auto, using(crate::proofs::Lines::line_laws))]
 fn skip_line(r: &mut TextReader<'_>, part: XbmPart) -> Result<(), XbmPart>
     ensures { Reads (line_rest (number part)) r.old r.new result }
 {
@@ -42,6 +43,7 @@ fn skip_line(r: &mut TextReader<'_>, part: XbmPart) -> Result<(), XbmPart>
 }
 
 // Skip whole lines, up to the first that begins with `#`.
+#[tactic(auto, using(crate::proofs::Lines::lines_laws))]
 pub fn skip_non_define_lines(r: &mut TextReader<'_>, part: XbmPart) -> Result<(), XbmPart>
     ensures { Reads (leading (number part) true) r.old r.new result }
 {

@@ -1,4 +1,5 @@
-// The lexical readers: each takes bytes off a text reader, and answers what it read, or a refusal with its place.
+// The lexical readers: each takes bytes off a text reader, and answers what it read, or the part whose rule is broken where the reader
+// then stands. As in the original each is lent the reader and told the part.
 #![tactic(auto)]
 
 ghost use Rattle.std.specs.Prelude.{◌≡◌, ℕ, Bool, Ok};
@@ -30,6 +31,7 @@ pub fn part_number(part: XbmPart) -> u32
 }
 
 // Space or tab.
+#[tactic(auto, using(std::proofs::lemmas::Grind::common_steps), unfolding(crate::specs::Lexical::is_blank))]
 pub fn is_blank(b: u8) -> bool
     ensures { result ≡ is_blank b }
 {
@@ -37,6 +39,7 @@ pub fn is_blank(b: u8) -> bool
 }
 
 // Space, tab or newline.
+#[tactic(auto, using(std::proofs::lemmas::Grind::common_steps), unfolding(crate::specs::Lexical::is_loose))]
 pub fn is_loose(b: u8) -> bool
     ensures { result ≡ is_loose b }
 {
@@ -79,6 +82,7 @@ pub fn read_optional_whitespace(r: &mut TextReader<'_>)
 }
 
 // Read a single byte.
+#[tactic(auto, using(crate::proofs::Laws::any_taken))]
 pub fn read_byte(r: &mut TextReader<'_>, part: XbmPart) -> Result<u8, XbmPart>
     ensures { Reads (any_byte (number part)) r.old r.new result }
 {

@@ -1,3 +1,2 @@
 -- The theorems of `lines` and what its proofs share, by module.
 pub mod Lines
-pub mod Laws

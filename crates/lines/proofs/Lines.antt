@@ -41,6 +41,6 @@ module _ (c : ℕ) where
 
   pub array-grows : (name : List ℕ) → Grows (array_line c name)
   unfolding array_line
-  array-grows name = search (firms, line_laws, element-local, element-mild) depth 40 fits 10000
+  array-grows name = search (firms, line_laws, element-local) depth 40 fits 10000
 
 pub ruleset array_laws = (array-local, array-firm, array-grows)

@@ -7,8 +7,7 @@ ghost use Rattle.lexical.specs.Reads.{Reads, lent};
 ghost use Rattle.lines.specs.Lines.{value, symbol, define_line, unsigned_char, element, array_line};
 
 use lexical::{
-    XbmPart, read_fixed_string, read_to_newline, read_until_whitespace,
-    read_whitespace_gap,
+    XbmPart, read_fixed_string, read_to_newline, read_until_whitespace, read_whitespace_gap,
 };
 use text::TextReader;
 
@@ -16,6 +15,7 @@ use text::TextReader;
 const MAX_INTEGER_LENGTH: usize = 11;
 
 // A gap, an integer token, and the line's end.
+#[tactic(auto, using(lexical::proofs::Laws::bind_then), unfolding(text::specs::Leaf::give))]
 pub fn read_value<'a>(r: &mut TextReader<'a>, part: XbmPart) -> Result<&'a [u8], XbmPart>
     ensures { Reads (value (number part) give) r.old r.new (lent result) }
 {
@@ -25,7 +25,9 @@ pub fn read_value<'a>(r: &mut TextReader<'a>, part: XbmPart) -> Result<&'a [u8],
     Ok(digits)
 }
 
-// `#define`, a gap, and the symbol made of the name and an ending.
+// `#define`, a gap, and the symbol made of the name and an ending. Name, ending and part stay three: each call of `read_define_line`
+// names them once, so a struct of them would be made and taken apart at once.
+#[tactic(auto, using(lexical::proofs::Laws::bind_then), unfolding(crate::specs::Lines::symbol))]
 fn read_symbol(
     r: &mut TextReader<'_>,
     name: &[u8],
@@ -41,6 +43,7 @@ fn read_symbol(
 }
 
 // A define line: its symbol, and then its integer token, which the caller parses.
+#[tactic(auto, using(lexical::proofs::Laws::bind_then), unfolding(crate::specs::Lines::define_line))]
 pub fn read_define_line<'a>(
     r: &mut TextReader<'a>,
     name: &[u8],
@@ -54,6 +57,7 @@ pub fn read_define_line<'a>(
 }
 
 // `unsigned`, a gap and `char`.
+#[tactic(auto, using(lexical::proofs::Laws::bind_then))]
 fn read_unsigned_char(r: &mut TextReader<'_>, part: XbmPart) -> Result<(), XbmPart>
     ensures { Reads (unsigned_char (number part)) r.old r.new result }
 {
@@ -63,6 +67,7 @@ fn read_unsigned_char(r: &mut TextReader<'_>, part: XbmPart) -> Result<(), XbmPa
 }
 
 // `char`, or that.
+#[tactic(auto, unfolding(text::specs::Leaf::fork, crate::specs::Lines::element))]
 fn read_element(r: &mut TextReader<'_>, part: XbmPart) -> Result<(), XbmPart>
     ensures { Reads (element (number part)) r.old r.new result }
 {
@@ -77,6 +82,7 @@ fn read_element(r: &mut TextReader<'_>, part: XbmPart) -> Result<(), XbmPart>
 }
 
 // The line that opens the array.
+#[tactic(auto, using(lexical::proofs::Laws::bind_then), unfolding(crate::specs::Lines::array_line))]
 pub fn read_array_line(r: &mut TextReader<'_>, name: &[u8], part: XbmPart) -> Result<(), XbmPart>
     ensures { Reads (array_line (number part) name.now) r.old r.new result }
 {

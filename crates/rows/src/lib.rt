@@ -54,8 +54,7 @@ fn quick_byte(r: &mut TextReader<'_>, table: &HexTable) -> Option<u8>
 }
 
 // The next data byte: the common form at once, anything else by the plain reader. The first is told apart, since it has no comma and its
-// place is not yet judged. The plain answer is taken apart and made again, so that it shares no memory with the quick one, which then
-// stays in registers: handed on as it is, decoding took two to three times as long.
+// place is not yet judged.
 fn next_data(r: &mut TextReader<'_>, first: bool, table: &HexTable) -> Result<u8, XbmPart>
     requires { first ≡ false → Sound r.old.location }
     ensures { Reads (item first) r.old r.new result }
@@ -65,8 +64,7 @@ fn next_data(r: &mut TextReader<'_>, first: bool, table: &HexTable) -> Result<u8
             return Ok(v);
         }
     }
-    let v = read_data_byte(r, first)?;
-    Ok(v)
+    read_data_byte(r, first)
 }
 
 // Fills the whole rows of `width` cells that the buffer has, as far as the picture goes. Eight cells are unpacked apart from fewer: with

@@ -20,6 +20,7 @@ pub fn name_buffer() -> [u8; MAX_IDENTIFIER_LENGTH]
 }
 
 // What precedes the width's symbol: leading lines, `#define`, a gap.
+#[tactic(auto, using(lexical::proofs::Laws::bind_then), unfolding(crate::specs::Symbol::opening))]
 fn read_opening(r: &mut TextReader<'_>) -> Result<(), XbmPart>
     ensures { Reads opening r.old r.new result }
 {
@@ -30,6 +31,7 @@ fn read_opening(r: &mut TextReader<'_>) -> Result<(), XbmPart>
 
 // The width's symbol, stored in `name`, also what was taken of one that is too long; the answer is the length of the name in it,
 // as the C interface hands it on.
+#[tactic(auto, using(crate::proofs::Laws::symbol_laws), unfolding(text::specs::Leaf::want, crate::specs::Symbol::width_symbol, crate::specs::Symbol::before))]
 pub fn read_width_symbol(r: &mut TextReader<'_>, name: &mut [u8]) -> Result<usize, XbmPart>
     ensures { Symboled r.old r.new name.old name.new result }
 {
