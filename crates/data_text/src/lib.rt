@@ -41,7 +41,7 @@ fn packed_byte(mask: Mask<'_>, k: usize) -> u8
     ensures { result ≡ packed_at mask.entry.width mask.entry.cells.now k }
 {
     let width = mask.width as usize;
-    let row = (width + 7) / 8;
+    let row = width.div_ceil(8);
     let u = k % row * 8;
     pack(mask.cells, k / row * width + u, (width - u).min(8))
 }

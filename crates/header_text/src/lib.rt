@@ -46,7 +46,7 @@ fn put_array(out: &mut Buffer<'_>, name: &[u8])
 pub fn put_header(out: &mut [u8], name: &[u8], header: XbmHeaderData) -> usize
     ensures { output out.new result ≡ puts (head_text name.now header.width header.height (hot_of header.hotspot)) (output out.old 0) }
 {
-    let mut out = Buffer { bytes: out, at: 0 };
+    let mut out = Buffer::new(out);
     put_define(&mut out, name, b"_width", header.width);
     put_define(&mut out, name, b"_height", header.height);
     put_spot(&mut out, name, header.hotspot);

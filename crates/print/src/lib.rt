@@ -1,7 +1,7 @@
 // Bytes and decimal numbers put into a lent buffer, one after another.
 #![tactic(auto)]
 
-ghost use Rattle.std.specs.Prelude.{[], ◌∷◌};
+ghost use Rattle.std.specs.Prelude.{[], ◌∷◌, ◌≡◌};
 ghost use Rattle.print.specs.Puts.{Puts};
 
 use itoa::Integer;
@@ -13,7 +13,16 @@ pub struct Buffer<'a> {
     pub at: usize,
 }
 
-impl Buffer<'_> {
+impl<'a> Buffer<'a> {
+    // A lent buffer, filled from its start on.
+    pub fn new(bytes: &'a mut [u8]) -> Buffer<'a>
+        ensures same { result.bytes.ghost_name ≡ bytes.entry.ghost_name }
+        ensures bytes { result.bytes.now ≡ bytes.old }
+        ensures at { result.at ≡ 0 }
+    {
+        Buffer { bytes, at: 0 }
+    }
+
     // One byte, which is dropped where no room is left.
     #[tactic(auto, unfolding(crate::specs::Output::put, crate::specs::Output::puts))]
     pub fn put_byte(&mut self, b: u8)

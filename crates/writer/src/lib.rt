@@ -87,7 +87,7 @@ fn check(name: &[u8], mask: Mask<'_>) -> Result<(), XbmEncodeError>
 fn put_text(out: &mut [u8], header: &[u8], mask: Mask<'_>) -> usize
     ensures { output out.new result ≡ puts (whole_text header.now (packed mask.entry.width mask.entry.height mask.entry.cells.now)) (output out.old 0) }
 {
-    let mut out = Buffer { bytes: out, at: 0 };
+    let mut out = Buffer::new(out);
     out.put_bytes(header);
     put_data(&mut out, mask);
     out.put_bytes(b"};\n");
