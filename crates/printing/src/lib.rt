@@ -53,7 +53,7 @@ fn put_hotspot_line(out: &mut Buffer<'_>, hotspot: Option<(i32, i32)>)
     put_hotspot(out, hotspot);
 }
 
-// The four lines of an accepted mask. The answer is their length (see `Buffer`).
+// The four lines of an accepted mask. The answer is their length (see `print::Buffer`).
 pub fn put_accepted(out: &mut [u8], header: XbmHeaderData, ink: u64) -> usize
     ensures { output out.new result ≡ puts (accepted_text (head_of [] header) ink) (output out.old 0) }
 {
@@ -66,7 +66,7 @@ pub fn put_accepted(out: &mut [u8], header: XbmHeaderData, ink: u64) -> usize
     out.at
 }
 
-// A refusal, with its place where it tells one. The answer is its length (see `Buffer`).
+// A refusal, with its place where it tells one. The answer is its length (see `print::Buffer`).
 pub fn put_refusal(out: &mut [u8], refusal: Refusal) -> usize
     ensures { output out.new result ≡ puts (printed (told_refusal refusal) 0) (output out.old 0) }
 {
