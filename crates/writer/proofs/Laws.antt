@@ -25,10 +25,7 @@ use Rattle.header_text.specs.HeaderText.{head_text}
 use Rattle.header_text.proofs.Size.{head-short}
 use Rattle.writer.specs.Written.{whole_text, written}
 use Rattle.writer.proofs.Size.{written-length, name-short}
-use Rattle.writer.specs.Writing.{breaks, unbroken, name_limit, good_name, wrong, Writing, stored, writing, error_of, number_of, told_writing}
-use Rattle.mask.specs.declared.MaskError.{MaskError}
-use Rattle.mask.specs.declared.MaskError.TheVariants.{ZeroSide as NoSide, CellCount as OtherCount, CellValue as NoCell}
-use Rattle.mask.specs.Fault.{error_number}
+use Rattle.writer.specs.Writing.{breaks, unbroken, name_limit, good_name, wrong, Writing, stored, writing, number_of, told_writing}
 use Rattle.writer.specs.declared.XbmEncodeError.{XbmEncodeError}
 use Rattle.writer.specs.declared.XbmEncodeError.TheVariants.{BadName, ZeroSide, CellCount, CellValue, ShortOutput}
 use Rattle.std.specs.Prelude.{[], ◌∷◌, ◌&&◌, Result as Answer, Ok, Err}
@@ -71,12 +68,6 @@ module _ (name : List ℕ) where
     wrong-mask e k f = rw (← e, not-false t k) f
 
 pub ruleset name_laws = (good-long, good-short, wrong_name, wrong-mask)
-
--- the number of a mask's error is the one that the mask's own rule has
-pub mask-number : (e : MaskError) → number_of (error_of e) ≡ error_number e
-mask-number NoSide = refl
-mask-number OtherCount = refl
-mask-number NoCell = refl
 
 -- ---- a mask with which nothing is wrong
 

@@ -73,6 +73,7 @@ fn is_good_name(name: &[u8]) -> bool
 }
 
 // What is wrong with the name or the mask.
+#[tactic(auto, using(crate::proofs::Laws::name_laws))]
 fn check(name: &[u8], mask: Mask<'_>) -> Result<(), XbmEncodeError>
     ensures { told_check result ≡ wrong name.now mask.entry.width mask.entry.height mask.entry.cells.now }
 {
@@ -121,6 +122,7 @@ fn write_sound(
 // Writes a mask as a text to the start of `out`; the answer is its length (see `print::Buffer`). Checked in this order, `out` untouched:
 // 51 the name is above 250 bytes or holds a blank or newline, 52 a side is zero, 53 the cells are not width times height,
 // 54 a cell is neither 0 nor 255, 55 `out` is too short.
+#[tactic(auto, using(crate::proofs::Laws::writing_laws))]
 pub fn write_xbm(
     name: &[u8],
     mask: Mask<'_>,
