@@ -65,7 +65,7 @@ fn is_unbroken(name: &[u8]) -> bool
     name.iter().all(|b| !is_loose(*b))
 }
 
-#[tactic(auto, using(crate::proofs::Laws::name_laws))]
+#[tactic(auto, using(crate::proofs::Laws::unbroken_is))]
 fn is_good_name(name: &[u8]) -> bool
     ensures { result ≡ good_name name.now }
 {
@@ -73,7 +73,7 @@ fn is_good_name(name: &[u8]) -> bool
 }
 
 // What is wrong with the name or the mask.
-#[tactic(auto, using(crate::proofs::Laws::name_laws))]
+#[tactic(auto, unfolding(crate::specs::Writing::wrong))]
 fn check(name: &[u8], mask: Mask<'_>) -> Result<(), XbmEncodeError>
     ensures { told_check result ≡ wrong name.now mask.entry.width mask.entry.height mask.entry.cells.now }
 {
@@ -122,7 +122,7 @@ fn write_sound(
 // Writes a mask as a text to the start of `out`; the answer is its length (see `print::Buffer`). Checked in this order, `out` untouched:
 // 51 the name is above 250 bytes or holds a blank or newline, 52 a side is zero, 53 the cells are not width times height,
 // 54 a cell is neither 0 nor 255, 55 `out` is too short.
-#[tactic(auto, using(crate::proofs::Laws::writing_laws))]
+#[tactic(auto, unfolding(crate::specs::Writing::writing))]
 pub fn write_xbm(
     name: &[u8],
     mask: Mask<'_>,
