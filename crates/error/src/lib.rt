@@ -3,6 +3,7 @@
 
 ghost use Rattle.std.specs.Prelude.{◌≡◌};
 ghost use Rattle.error.specs.Error.{integer_number, error_number, located, refusal_of};
+ghost use Rattle.error.specs.declared.XbmDecodeError.TheVariants.{Parse};
 
 use integer::{Fault, fault_number};
 use lexical::{XbmPart, part_number};
@@ -29,13 +30,13 @@ impl From<XbmPart> for XbmDecodeError<()> {
 impl XbmDecodeError<()> {
     // The same with a place, where a rule is broken.
     pub fn at(self, place: TextLocation) -> XbmDecodeError<TextLocation>
-        ensures { result ≡ located place self.entry }
+        ensures { result ≡ located place self }
     {
         match self {
-            XbmDecodeError::Parse(part, ()) => XbmDecodeError::Parse(part, place),
-            XbmDecodeError::DecodeInteger(part, fault) => XbmDecodeError::DecodeInteger(part, fault),
-            XbmDecodeError::ZeroWidth => XbmDecodeError::ZeroWidth,
-            XbmDecodeError::ZeroHeight => XbmDecodeError::ZeroHeight,
+            Self::Parse(part, ()) => XbmDecodeError::Parse(part, place),
+            Self::DecodeInteger(part, fault) => XbmDecodeError::DecodeInteger(part, fault),
+            Self::ZeroWidth => XbmDecodeError::ZeroWidth,
+            Self::ZeroHeight => XbmDecodeError::ZeroHeight,
         }
     }
 }

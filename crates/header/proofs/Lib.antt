@@ -1,6 +1,4 @@
 -- The theorems of `header` and what its proofs share, by module.
 pub mod Examples
 pub mod Header
-pub mod Told
 pub mod Parts
-pub mod Laws

@@ -1,13 +1,16 @@
 -- The code's parts of the header, one after another, are the header.
 use Prim.Native.Nat.{ℕ}
-use mathlib.Core.Path.{◌≡◌, refl, fun_ext}
+use mathlib.Core.Path.{◌≡◌, refl, ap, fun_ext}
+use mathlib.Core.List.{List}
 use Rattle.text.specs.declared.TextLocation.{TextLocation}
 use Rattle.text.specs.Reader.{Result, ok, stop, bad, Reader, then, ◌>>=◌}
 use Rattle.text.specs.Leaf.{give}
+use Rattle.lexical.proofs.Laws.{bind_then}
 use Rattle.symbol.specs.Symbol.{opening, width_symbol}
+use Rattle.symbol.proofs.Laws.{size-taken}
 use Rattle.lines.specs.Lines.{symbol, width_line, define_line}
 use Rattle.hotspot.specs.Hotspot.{coordinate_line, spot}
-use Rattle.header.specs.Header.{rest, header}
+use Rattle.header.specs.Header.{Head, rest, header}
 use Rattle.header.specs.Answer.{rest_of, sides_of}
 
 then-assoc : {A B C : Type 0} (r : Result A) (f : A → TextLocation → Result B) (g : B → TextLocation → Result C)
@@ -24,6 +27,10 @@ give-bind : {A B : Type 0} (a : A) (f : A → Reader B) → give a >>= f ≡ f a
 unfolding ◌>>=◌ give
 give-bind a f = refl
 
-pub parts : (limit : ℕ) → width_symbol limit >>= (λ name. sides_of name) ≡ header limit
+pub parts : (limit : ℕ) (t : List ℕ) (i : TextLocation) → header limit t i ≡ (width_symbol limit >>= λ name. sides_of name) t i
 unfolding define_line coordinate_line spot rest_of sides_of width_symbol symbol width_line rest header opening
-parts limit = simp (bind_assoc, give-bind)
+parts limit t i =
+    let e : header limit ≡ width_symbol limit >>= λ name. sides_of name = simp (bind_assoc, give-bind) in
+    ap (λ (p : Reader Head). p t i) e
+
+pub ruleset header_laws = (parts, bind_then, size-taken)

@@ -26,12 +26,17 @@ pub struct XbmHeaderData {
 #[derive(Clone, Copy, Debug, PartialEq, Eq)]
 pub struct HeaderAnswer {
     pub header: Result<(XbmHeaderData, TextLocation), XbmDecodeError<TextLocation>>,
-    // Its bytes stand at the start of the lent buffer, which no answer borrows.
+    // Its bytes stand at the start of the lent buffer, which no answer borrows. Beside a refusal 0 stands here and not no length, in an
+    // Option: what is told of a refusal has the name's length too, as 0, since C has it so.
     pub name: usize,
 }
 
 // A side's token: an integer, and not zero.
-fn parse_side(digits: &[u8], part: XbmPart, zero: XbmDecodeError<()>) -> Result<u32, XbmDecodeError<()>>
+fn parse_side(
+    digits: &[u8],
+    part: XbmPart,
+    zero: XbmDecodeError<()>,
+) -> Result<u32, XbmDecodeError<()>>
     ensures { result ≡ side_of part zero digits.now }
 {
     match parse_u32(digits) {
@@ -42,6 +47,7 @@ fn parse_side(digits: &[u8], part: XbmPart, zero: XbmDecodeError<()>) -> Result<
 }
 
 // What follows the height line: `#` opens the hotspot, `s` the array line. The sides stand apart until the header is whole.
+#[tactic(auto, using(lexical::proofs::Laws::bind_then), unfolding(text::specs::Leaf::give, text::specs::Leaf::fork, crate::specs::Answer::rest_of))]
 fn read_rest(
     r: &mut TextReader<'_>,
     name: &[u8],
@@ -67,6 +73,7 @@ fn read_rest(
 }
 
 // What follows the width's symbol.
+#[tactic(auto, using(lexical::proofs::Laws::bind_then), unfolding(text::specs::Leaf::need, lines::specs::Lines::positive, crate::specs::Answer::sides_of))]
 fn read_sides(r: &mut TextReader<'_>, name: &[u8]) -> Result<XbmHeaderData, XbmDecodeError<()>>
     ensures { Decodes (sides_of name.now) r.old r.new (headed name.now result) }
 {
@@ -78,6 +85,7 @@ fn read_sides(r: &mut TextReader<'_>, name: &[u8]) -> Result<XbmHeaderData, XbmD
 }
 
 // Read the XBM file header up to and including the first opening brace.
+#[tactic(auto, using(crate::proofs::Parts::header_laws), unfolding(symbol::specs::Symbol::stored))]
 pub fn read_xbm_header(text: &[u8], name: &mut [u8]) -> HeaderAnswer
     ensures { Headed text.now name.old name.new result }
 {

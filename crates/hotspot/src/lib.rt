@@ -12,6 +12,7 @@ use lines::read_define_line;
 use text::TextReader;
 
 // A define line with a coordinate.
+#[tactic(auto, using(lexical::proofs::Laws::bind_then), unfolding(text::specs::Leaf::need, crate::specs::Hotspot::coordinate_line))]
 fn read_coordinate_line(
     r: &mut TextReader<'_>,
     name: &[u8],
@@ -24,7 +25,8 @@ fn read_coordinate_line(
     parse_i32(digits).map_err(|fault| XbmDecodeError::DecodeInteger(part, fault))
 }
 
-// The hotspot's two lines.
+// The hotspot's two lines. `wraps` says that a coordinate's bits, stored in the pair, read back as the coordinate.
+#[tactic(auto, using(lexical::proofs::Laws::bind_then, std::proofs::lemmas::Int::wraps), unfolding(text::specs::Leaf::give, crate::specs::Hotspot::spot))]
 pub fn read_hotspot(r: &mut TextReader<'_>, name: &[u8]) -> Result<(i32, i32), XbmDecodeError<()>>
     ensures { Decodes (spot name.now) r.old r.new result }
 {

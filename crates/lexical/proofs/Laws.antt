@@ -172,10 +172,10 @@ module _ (class : ℕ → Bool) {r : TextReader} {m : Taken ℕ} (e : m ≡ next
 pub ruleset skip_laws = (skip-again, skip_stop, skip-end, leads-reads, leads-begin, remains-less, passed-text)
 
 -- any byte
-pub any-taken : (part : XbmPart) (r₀ : TextReader) {r₁ : TextReader} {m : Taken ℕ} {z : Answer ℕ XbmPart} → m ≡ next_of r₀ → length r₀.text.now * 1 < 2 ^ 63 → r₁ ≡ moved_on r₀ → z ≡ ok_or m part
+pub any_taken : (part : XbmPart) (r₀ : TextReader) {r₁ : TextReader} {m : Taken ℕ} {z : Answer ℕ XbmPart} → m ≡ next_of r₀ → length r₀.text.now * 1 < 2 ^ 63 → r₁ ≡ moved_on r₀ → z ≡ ok_or m part
     → Reads (any_byte (number part)) r₀ r₁ z
 unfolding any_byte
-any-taken part r₀ {r₁ = r₁} {m = m} {z = z} e l k t = go m refl
+any_taken part r₀ {r₁ = r₁} {m = m} {z = z} e l k t = go m refl
   where
     go : (n : Taken ℕ) → m ≡ n → Reads (one (number part) (λ b. some b)) r₀ r₁ z
     go None h = rw (t, h) (one-lacks part (λ b. some b) e h (unmoved r₀ e k h))

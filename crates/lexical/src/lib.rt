@@ -31,6 +31,7 @@ pub fn part_number(part: XbmPart) -> u32
 }
 
 // Space or tab.
+#[tactic(auto, using(std::proofs::lemmas::Grind::common_steps), unfolding(crate::specs::Lexical::is_blank))]
 pub fn is_blank(b: u8) -> bool
     ensures { result ≡ is_blank b }
 {
@@ -38,6 +39,7 @@ pub fn is_blank(b: u8) -> bool
 }
 
 // Space, tab or newline.
+#[tactic(auto, using(std::proofs::lemmas::Grind::common_steps), unfolding(crate::specs::Lexical::is_loose))]
 pub fn is_loose(b: u8) -> bool
     ensures { result ≡ is_loose b }
 {
@@ -80,6 +82,7 @@ pub fn read_optional_whitespace(r: &mut TextReader<'_>)
 }
 
 // Read a single byte.
+#[tactic(auto, using(crate::proofs::Laws::any_taken))]
 pub fn read_byte(r: &mut TextReader<'_>, part: XbmPart) -> Result<u8, XbmPart>
     ensures { Reads (any_byte (number part)) r.old r.new result }
 {

@@ -9,5 +9,6 @@ returns-in-Some g c = λ class d. let h = d.decides _ _ c.class.ensures in searc
 
 pub returns : goal.returns
 returns g c = λ class d. elim c.match-next.branch [
-    in_default-2 w ↦ let h = d.decides _ _ w.class.ensures in rw w.result-is (search (byte_laws, rules))
-  | in_default w ↦ rw w.result-is (search (byte_laws, rules)) ]
+  | in_default-2 w ↦ let h = d.decides _ _ w.class.ensures in rw w.result-is (search (byte_laws, rules))
+  | in_default w ↦ rw w.result-is (search (byte_laws, rules))
+]
