@@ -6,8 +6,8 @@ use native.Mathlib.Nat.{mul-le-mul_left, mul_left_comm, div-add-mod', pow-le-pow
 use mir.Syntax.{w8}
 use mir.Val.{Fits}
 use mathlib.Core.List.{List}
-use Rattle.body.specs.Data.{row_bytes}
-use Rattle.data_text.specs.Packed.{bit_at, bits, first_cell}
+use Rattle.std.specs.Int.{div_ceil}
+use Rattle.data_text.specs.Packed.{bit_at, bits}
 use Rattle.data_text.proofs.Bits.{bits_small}
 
 -- a cell more in a byte
@@ -31,9 +31,9 @@ pub ruleset pack_laws = (pack-doubles, pack-fits)
 -- ---- a data byte's place
 
 -- the first cell of byte k is no further than eight times k
-pub first_near : (w k : ℕ) → 0 < w → first_cell w k ≤ 8 * k
-first_near w k h =
-    let l : k / row_bytes w * w ≤ k / row_bytes w * (8 * row_bytes w) = mul-le-mul_left (k / row_bytes w) (omega arith) in
-    let m : k / row_bytes w * (8 * row_bytes w) ≡ 8 * (k / row_bytes w * row_bytes w) = mul_left_comm (k / row_bytes w) 8 (row_bytes w) in
-    let d : k / row_bytes w * row_bytes w + k % row_bytes w ≡ k = div-add-mod' k (row_bytes w) in
+pub first_near : (w k : ℕ) {row : ℕ} → 0 < w → row ≡ div_ceil w 8 → k / row * w + k % row * 8 ≤ 8 * k
+first_near w k {row} h e =
+    let l : k / row * w ≤ k / row * (8 * row) = mul-le-mul_left (k / row) (omega arith) in
+    let m : k / row * (8 * row) ≡ 8 * (k / row * row) = mul_left_comm (k / row) 8 row in
+    let d : k / row * row + k % row ≡ k = div-add-mod' k row in
     omega arith

@@ -21,7 +21,8 @@ fn bit_at(cells: &[u8], c: usize) -> u8
     }
 }
 
-// n cells from `start` on as the bits of a byte, the least first.
+// n cells from `start` on as the bits of a byte, the least first. By an index from the last cell down: of cells skipped, taken and folded
+// in reverse the proof did not close, and a slice of them would be cut at both ends, which is no plainer.
 #[tactic(auto, using(crate::proofs::Packing::pack_laws))]
 fn pack(cells: &[u8], start: usize, n: usize) -> u8
     requires { (n ≤ 8) × (start + n < 2 ^ 64) }
@@ -41,7 +42,7 @@ fn packed_byte(mask: Mask<'_>, k: usize) -> u8
     ensures { result ≡ packed_at mask.entry.width mask.entry.cells.now k }
 {
     let width = mask.width as usize;
-    let row = (width + 7) / 8;
+    let row = width.div_ceil(8);
     let u = k % row * 8;
     pack(mask.cells, k / row * width + u, (width - u).min(8))
 }

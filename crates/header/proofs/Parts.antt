@@ -27,10 +27,12 @@ give-bind : {A B : Type 0} (a : A) (f : A → Reader B) → give a >>= f ≡ f a
 unfolding ◌>>=◌ give
 give-bind a f = refl
 
+-- the width's symbol and what follows it
 pub parts : (limit : ℕ) (t : List ℕ) (i : TextLocation) → header limit t i ≡ (width_symbol limit >>= λ name. sides_of name) t i
 unfolding define_line coordinate_line spot rest_of sides_of width_symbol symbol width_line rest header opening
 parts limit t i =
     let e : header limit ≡ width_symbol limit >>= λ name. sides_of name = simp (bind_assoc, give-bind) in
     ap (λ (p : Reader Head). p t i) e
 
+-- what a reading of the header rests on
 pub ruleset header_laws = (parts, bind_then, size-taken)

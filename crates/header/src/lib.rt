@@ -26,8 +26,8 @@ pub struct XbmHeaderData {
 #[derive(Clone, Copy, Debug, PartialEq, Eq)]
 pub struct HeaderAnswer {
     pub header: Result<(XbmHeaderData, TextLocation), XbmDecodeError<TextLocation>>,
-    // Its bytes stand at the start of the lent buffer, which no answer borrows. Beside a refusal 0 stands here and not no length, in an
-    // Option: what is told of a refusal has the name's length too, as 0, since C has it so.
+    // Its bytes stand at the start of the lent buffer, which no answer borrows. A number and no Option, 0 beside a refusal: the name's
+    // length is told of a refusal too, since C has it so.
     pub name: usize,
 }
 

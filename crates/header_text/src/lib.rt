@@ -42,11 +42,11 @@ fn put_array(out: &mut Buffer<'_>, name: &[u8])
     out.put_bytes(b"_bits[] = {");
 }
 
-// All up to the brace, from the buffer's start.
+// All up to the brace, from the buffer's start. The answer is its length (see `print::Buffer`).
 pub fn put_header(out: &mut [u8], name: &[u8], header: XbmHeaderData) -> usize
     ensures { output out.new result ≡ puts (head_text name.now header.width header.height (hot_of header.hotspot)) (output out.old 0) }
 {
-    let mut out = Buffer { bytes: out, at: 0 };
+    let mut out = Buffer::new(out);
     put_define(&mut out, name, b"_width", header.width);
     put_define(&mut out, name, b"_height", header.height);
     put_spot(&mut out, name, header.hotspot);

@@ -1,7 +1,6 @@
 -- What a step of the code says of the lexical rules.
 use Prim.Native.Nat.{ℕ, suc, ◌+◌, ◌*◌, ◌^◌, ◌<◌, ◌≤◌}
 use native.Mathlib.Numerals.{add-one}
-use native.Mathlib.Omega.{arith}
 use mathlib.Core.Path.{◌≡◌, refl, ap, ◌∙◌}
 use mathlib.Core.Option.{Option, none, some}
 use mathlib.Core.List.{List}
@@ -19,20 +18,8 @@ use Rattle.text.specs.Leaf.{give, one}
 use Rattle.text.proofs.Laws.{next-less, end-onward, reader_passed, reader-moved}
 use Rattle.text.proofs.Reading.{one_ok, one-stop, one_end, run_on, run-stay, run_end}
 use Rattle.lexical.specs.declared.XbmPart.{XbmPart}
-use Rattle.lexical.specs.declared.XbmPart.TheVariants.{Width, Height, HotspotX, HotspotY, Array, Data, ArrayEnd, Trailing}
 use Rattle.lexical.specs.Lexical.{number, when, is, any_byte, byte, while, skip, fixed}
 use Rattle.lexical.specs.Reads.{Telling, placed, alone, refuse, Gives, Reads}
-
--- a part's number
-pub number_small : (part : XbmPart) → number part ≤ 8
-number_small Width = omega arith
-number_small Height = omega arith
-number_small HotspotX = omega arith
-number_small HotspotY = omega arith
-number_small Array = omega arith
-number_small Data = omega arith
-number_small ArrayEnd = omega arith
-number_small Trailing = omega arith
 
 -- what the exit of a `?` hands back
 pub refused-as : {A E : Type 0} {r : Answer A E} {x : E} → IsErrAnd r (λ e. e ≡ x) → r ≡ Err x
@@ -136,10 +123,6 @@ module _ {A : Type 0} {p q : Reader A} {r₀ r : TextReader} (h : Leads p r₀ q
 
   pub leads-on : {q' : Reader A} {r' : TextReader} → r'.text ≡ r.text → q' r'.text.now r'.location ≡ q r.text.now r.location → Leads p r₀ q' r'
   leads-on k e = record { kept = k ∙ h.kept; same = e ∙ h.same }
-
--- what q gives is what p gives
-pub reads-as : {A E : Type 0} {tells : E → Telling} (p q : Reader A) {r₀ r₁ : TextReader} {m : Answer A E} → q r₀.text.now r₀.location ≡ p r₀.text.now r₀.location → Gives tells q r₀ r₁ m → Gives tells p r₀ r₁ m
-reads-as p q e h = leads-reads (record { kept = refl; same = e }) h
 
 -- a reader at which a text goes on is short enough to be passed over
 module _ (r₀ r : TextReader) (l : length r₀.text.now * 1 < 2 ^ 63) (k : r.text ≡ r₀.text) {m : Taken ℕ} (e : m ≡ next_of r) {b : ℕ} (h : m ≡ Some b) {r₁ : TextReader} (t : r₁ ≡ passed b r) where

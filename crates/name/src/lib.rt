@@ -13,26 +13,23 @@ pub struct Named<'n> {
     pub rest: &'n [u8],
 }
 
-// Reads the header into the buffer; answers the length of the name at its start, 0 if the header is refused. A length, since no answer
-// borrows a buffer that is spoken of afterwards.
+impl<'n> Named<'n> {
+    // A buffer parted behind its first n bytes, or behind all where it has fewer.
+    pub fn first_of(buffer: &'n [u8], n: usize) -> Named<'n>
+        ensures name { result.name.now ≡ take n buffer.now }
+        ensures rest { result.rest.now ≡ drop n buffer.now }
+    {
+        let (name, rest) = buffer.split_at(n.min(buffer.len()));
+        Named { name, rest }
+    }
+}
+
+// Reads the header into the buffer; answers the length of the name at its start: 0 if the header is refused, where document 01 hands
+// back the empty name. A length, since no answer borrows a buffer that is spoken of afterwards.
 pub fn store_name(text: &[u8], name: &mut [u8]) -> usize
     ensures { Stored text.now name.old name.new result }
 {
     read_xbm_header(text, name).name
-}
-
-// The first n bytes of a buffer, or all where it has fewer.
-pub fn name_of<'n>(name: &'n [u8], n: usize) -> &'n [u8]
-    ensures { result.now ≡ take n name.now }
-{
-    &name[..n.min(name.len())]
-}
-
-// What follows the first n bytes.
-pub fn rest_of<'n>(name: &'n [u8], n: usize) -> &'n [u8]
-    ensures { result.now ≡ drop n name.now }
-{
-    &name[n.min(name.len())..]
 }
 
 // Reads the header into the buffer, and hands the name out as the buffer's first part; of a refused header it is empty.
@@ -40,9 +37,5 @@ pub fn read_name<'t, 'n>(text: &'t [u8], name: &'n mut [u8]) -> Named<'n>
     ensures { Parted text.now name.old result.name.now result.rest.now }
 {
     let n = store_name(text, name);
-    let whole: &'n [u8] = name;
-    Named {
-        name: name_of(whole, n),
-        rest: rest_of(whole, n),
-    }
+    Named::first_of(name, n)
 }

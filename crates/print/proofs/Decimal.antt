@@ -22,22 +22,6 @@ digits-large : (k n : ℕ) → 10 ≤ n → digits (suc k) n ≡ digits k (n / 1
 unfolding digits
 digits-large k n h = rw (le-ltb n 10 h)
 
--- more digits allowed than needed change nothing
-digits_more : (k n : ℕ) → n < 10 ^ suc k → digits (suc k) n ≡ digits (suc (suc k)) n
-digits_more zero n h = digits-small zero n (omega arith) ∙ sym (digits-small 1 n (omega arith))
-digits_more (suc k) n h = go (dec_lt n 10) (λ l. digits_more k (n / 10) l)
-  where
-    go : Dec (n < 10) → (n / 10 < 10 ^ suc k → digits (suc k) (n / 10) ≡ digits (suc (suc k)) (n / 10)) → digits (suc (suc k)) n ≡ digits (suc (suc (suc k))) n
-    go (yes l) f = digits-small (suc k) n l ∙ sym (digits-small (suc (suc k)) n l)
-    go (no l) f =
-        digits-large (suc k) n (omega arith) ∙ ap (λ (d : List ℕ). d ++ ((48 + n % 10) ∷ [])) (f (omega (arith, pow-suc 10 (suc k)))) ∙ sym (digits-large (suc (suc k)) n (omega arith))
-
-pub decimal-small : (n : ℕ) → n < 10 → (48 + n) ∷ [] ≡ decimal n
-decimal-small n h = sym (digits-small 19 n h)
-
-pub decimal-large : (n : ℕ) → 10 ≤ n → n < 2 ^ 64 → decimal (n / 10) ++ ((48 + n % 10) ∷ []) ≡ decimal n
-decimal-large n h l = ap (λ (d : List ℕ). d ++ ((48 + n % 10) ∷ [])) (sym (digits_more 18 (n / 10) (omega arith))) ∙ sym (digits-large 19 n h)
-
 -- they are what the library prints
 pub decimal-printed : (n : ℕ) → n < 2 ^ 64 → Printed.decimal n ≡ decimal n
 decimal-printed n h =

@@ -46,5 +46,5 @@ module _ {o o₁ o₂ : Buffer} (u v : List ℕ) (p : Puts u o o₁) (q : Puts v
     puts-four x s = rw (append-nil x) (puts-then u (v ++ (w ++ x)) p (puts-then v (w ++ x) q (puts-then w x r s)))
 
 -- the buffer that was lent, when the struct is done with
-pub puts-end : {o o' : Buffer} {w s : List ℕ} → Puts w o o' → s ≡ o'.bytes.now → output s o'.at ≡ puts w (output o.bytes.now o.at)
-puts-end p e = rw e p.gives
+pub puts-end : {o o' : Buffer} {w lent s : List ℕ} → o.bytes.now ≡ lent → o.at ≡ 0 → Puts w o o' → s ≡ o'.bytes.now → output s o'.at ≡ puts w (output lent 0)
+puts-end b z p e = rw (e, ← b, ← z) p.gives

@@ -1,19 +1,30 @@
 // Bytes and decimal numbers put into a lent buffer, one after another.
 #![tactic(auto)]
 
-ghost use Rattle.std.specs.Prelude.{[], ◌∷◌};
+ghost use Rattle.std.specs.Prelude.{[], ◌∷◌, ◌≡◌};
 ghost use Rattle.print.specs.Puts.{Puts};
 
 use itoa::Integer;
 
 // A lent buffer, and where the next byte goes. std's `write!` into one says what is left there only where it succeeds.
+// What fills one answers its length and no part of it: there is no heap, and of a buffer that an answer borrows no clause can say
+// what it holds later.
 #[derive(Drop)]
 pub struct Buffer<'a> {
     pub bytes: &'a mut [u8],
     pub at: usize,
 }
 
-impl Buffer<'_> {
+impl<'a> Buffer<'a> {
+    // A lent buffer, filled from its start on.
+    pub fn new(bytes: &'a mut [u8]) -> Buffer<'a>
+        ensures same { result.bytes.ghost_name ≡ bytes.entry.ghost_name }
+        ensures bytes { result.bytes.now ≡ bytes.old }
+        ensures at { result.at ≡ 0 }
+    {
+        Buffer { bytes, at: 0 }
+    }
+
     // One byte, which is dropped where no room is left.
     #[tactic(auto, unfolding(crate::specs::Output::put, crate::specs::Output::puts))]
     pub fn put_byte(&mut self, b: u8)

@@ -53,11 +53,11 @@ fn put_hotspot_line(out: &mut Buffer<'_>, hotspot: Option<(i32, i32)>)
     put_hotspot(out, hotspot);
 }
 
-// The four lines of an accepted mask.
+// The four lines of an accepted mask. The answer is their length (see `print::Buffer`).
 pub fn put_accepted(out: &mut [u8], header: XbmHeaderData, ink: u64) -> usize
     ensures { output out.new result ≡ puts (accepted_text (head_of [] header) ink) (output out.old 0) }
 {
-    let mut out = Buffer { bytes: out, at: 0 };
+    let mut out = Buffer::new(out);
     put_field(&mut out, b"width ", u64::from(header.width));
     put_field(&mut out, b"\nheight ", u64::from(header.height));
     put_hotspot_line(&mut out, header.hotspot);
@@ -66,11 +66,11 @@ pub fn put_accepted(out: &mut [u8], header: XbmHeaderData, ink: u64) -> usize
     out.at
 }
 
-// A refusal, with its place where it tells one.
+// A refusal, with its place where it tells one. The answer is its length (see `print::Buffer`).
 pub fn put_refusal(out: &mut [u8], refusal: Refusal) -> usize
     ensures { output out.new result ≡ puts (printed (told_refusal refusal) 0) (output out.old 0) }
 {
-    let mut out = Buffer { bytes: out, at: 0 };
+    let mut out = Buffer::new(out);
     put_field(&mut out, b"refused ", u64::from(refusal.number));
     if let Some(place) = refusal.place {
         put_place(&mut out, place);

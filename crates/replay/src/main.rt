@@ -22,7 +22,8 @@ impl From<io::Error> for Malformed {
     }
 }
 
-// The count of cases that a list begins with, and 0 if it begins otherwise: such a list has no case.
+// The count of cases that a list begins with, and 0 if it begins otherwise. No Option: such a list prints what it printed, `0 cases`, or
+// that it is malformed at case 0 where something is left of it.
 fn read_count<R: Read>(list: &mut R) -> u64 {
     let mut magic = [0u8; 8];
     let mut count = [0u8; 4];

@@ -1,4 +1,5 @@
-// What a call tells, written as numbers in the order of include/xbm.h: the report of a header or a picture, and its hotspot; and a hotspot given so.
+// What a call tells, written as numbers in the order of include/xbm.h: the report of a header or a picture, and its hotspot; and a hotspot
+// given so.
 #![tactic(auto)]
 
 ghost use Rattle.std.specs.Prelude.{◌≡◌};
@@ -7,7 +8,8 @@ ghost use Rattle.report.specs.Report.{flag_of, coordinates, hot_given, report_of
 
 use text::TextLocation;
 
-// What a call of the C interface tells, its number 0 if it accepts: zeros and no hotspot where it tells nothing; `name` is the name's length.
+// What a call of the C interface tells, its number 0 if it accepts: zeros and no hotspot where it tells nothing; `name` is the name's
+// length.
 #[derive(Clone, Copy, Debug, PartialEq, Eq)]
 pub struct Summary {
     pub number: u32,

@@ -1,6 +1,8 @@
 -- What the rewriting program prints of a text: its mask written anew, or the line of its refusal, as the listing prints it.
-use Rattle.std.specs.Prelude.{ℕ, ◌≡◌, List, take}
+use Rattle.std.specs.Prelude.{ℕ, ◌≡◌, List, take, Result, Ok, Err}
 use Rattle.text.specs.Outcome.{Outcome, accepted, refused, unplaced}
+use Rattle.error.specs.declared.Refusal.{Refusal}
+use Rattle.error.specs.Error.{told_refusal}
 use Rattle.header.specs.Header.{Head}
 use Rattle.image.specs.Limited.{cells_of, within}
 use Rattle.print.specs.Output.{Output, output, puts}
@@ -31,6 +33,11 @@ unfoldable pub rewriting : ℕ → ℕ → List ℕ → List ℕ → List ℕ �
 rewriting bytes most text name cells out = rewrite_of (within bytes most text name cells).answer (within bytes most text name cells).pixels out
 
 -- ---- what the code does
+
+-- what is put for an answer: the text that stands in the output, or the line of its refusal
+abbrev pub put_for : Result ℕ Refusal → List ℕ → Output
+put_for (Ok n) out = output out n
+put_for (Err e) out = refusal_in (told_refusal e) out
 
 pub record Rewrites (bytes most : ℕ) (text name cells out name' cells' out' : List ℕ) (r : ℕ) : Type 0 where
   pub prints : output out' r ≡ rewriting bytes most text name cells out

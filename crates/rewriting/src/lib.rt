@@ -2,12 +2,11 @@
 #![tactic(auto)]
 
 ghost use Rattle.std.specs.Prelude.{◌≡◌};
-ghost use Rattle.header.specs.Answer.{hot_of};
-ghost use Rattle.print.specs.Output.{output};
-ghost use Rattle.writer.specs.Writing.{writing};
-ghost use Rattle.rewriting.specs.Rewriting.{writing_in, Rewrites};
+ghost use Rattle.image.specs.Limited.{within};
+ghost use Rattle.rewriting.specs.Rewriting.{put_for, rewriting, Rewrites};
 ghost use Rattle.rewriting.specs.Program.{RewritesInput};
 
+use error::Refusal;
 use image::{Limits, read_within};
 use ink::Mask;
 use printing::put_refusal;
@@ -18,18 +17,26 @@ use writer::write_xbm;
 // Room for the text of every picture of so many cells.
 pub const REWRITTEN_SIZE: usize = 411140;
 
-// Writes a mask; where that is refused, the line of the refusal.
-fn put_mask(out: &mut [u8], name: &[u8], mask: Mask<'_>, hotspot: Option<(i32, i32)>) -> usize
-    ensures { output out.new result ≡ writing_in (writing name.now mask.entry.width mask.entry.height (hot_of hotspot) mask.entry.cells.now out.old) }
+// Rewrites a text, within limits, to the start of `out`, unless the text or the mask in it is refused.
+#[tactic(auto, unfolding(crate::specs::Rewriting::rewriting))]
+fn rewrite_text(
+    text: &[u8],
+    name: &mut [u8],
+    cells: &mut [u8],
+    out: &mut [u8],
+    limits: Limits,
+) -> Result<usize, Refusal>
+    ensures prints { put_for result out.new ≡ rewriting limits.text limits.cells text.now name.old cells.old out.old }
+    ensures named { name.new ≡ (within limits.text limits.cells text.now name.old cells.old).symbol }
+    ensures filled { cells.new ≡ (within limits.text limits.cells text.now name.old cells.old).pixels }
 {
-    match write_xbm(name, mask, hotspot, out) {
-        Ok(size) => size,
-        Err(e) => put_refusal(out, e.into()),
-    }
+    let read = read_within(text, name, cells, limits);
+    let header = read.image?;
+    let mask = Mask::first_of(header.width, header.height, cells);
+    Ok(write_xbm(&name[..read.name], mask, header.hotspot, out)?)
 }
 
-// Rewrites a text, within limits: what is printed goes to the start of `out`, and the answer is its length.
-#[tactic(auto, unfolding(crate::specs::Rewriting::rewriting))]
+// Rewrites a text, within limits: what is printed goes to the start of `out`, and the answer is its length (see `print::Buffer`).
 pub fn rewrite(
     text: &[u8],
     name: &mut [u8],
@@ -40,18 +47,14 @@ pub fn rewrite(
     ensures { Rewrites limits.text limits.cells text.now name.old cells.old out.old
         name.new cells.new out.new result }
 {
-    let read = read_within(text, name, cells, limits);
-    match read.image {
-        Ok(header) => {
-            let mask = Mask::first_of(header.width, header.height, cells);
-            put_mask(out, &name[..read.name], mask, header.hotspot)
-        }
-        Err(e) => put_refusal(out, e.into()),
+    match rewrite_text(text, name, cells, out, limits) {
+        Ok(size) => size,
+        Err(refusal) => put_refusal(out, refusal),
     }
 }
 
 // Rewrites the input, of which the first n bytes of `text` are all or as much as it has room for.
-// The answer is how many bytes of `out` are the rewritten text, or the line of a refusal.
+// The answer is how many bytes of `out` are the rewritten text, or the line of a refusal (see `print::Buffer`).
 // A slice in place of `text` and n would be no plainer: the array's type shows that one byte too many finds room.
 // Nor would one function for this and `list_input`, generic in the call and the output's size: each is one line.
 pub fn rewrite_input(

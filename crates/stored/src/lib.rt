@@ -46,7 +46,8 @@ pub struct Symbol {
     pub sum: u64,
 }
 
-// An answer, and the sums of both buffers after it. What an answer does not tell is 0.
+// An answer, and the sums of both buffers after it. What an answer does not tell is 0 and no None: the original's record has zeros
+// there, and they are compared.
 #[derive(Clone, Copy, Debug, Default, PartialEq, Eq)]
 pub struct Told {
     pub number: u64,
@@ -93,14 +94,14 @@ impl fmt::Display for Difference {
     }
 }
 
-// The byte at i, and 0 past the end.
+// The byte at i, and 0 past the end, as the definition has it. No Option: a record's bytes are all there, so None would never come.
 fn byte_at(bytes: &[u8], i: usize) -> u8
     ensures { result ≡ byte_at bytes.now i }
 {
     bytes.get(i).copied().unwrap_or(0)
 }
 
-// The number in the four bytes from i on, the least first, and 0 past a record's end.
+// The number in the four bytes from i on, the least first, and 0 past a record's end: no Option, as for a byte.
 pub fn number_at(bytes: &[u8], i: usize) -> u64
     ensures { result ≡ number_at bytes.now i }
 {

@@ -1,29 +1,17 @@
 -- What a step of the code says of the width's symbol.
 use Prim.Native.Nat.{ℕ, ◌≤◌}
-use mathlib.Core.Path.{◌≡◌, sym, ap}
+use mathlib.Core.Path.{◌≡◌, sym}
 use mathlib.Core.List.{List}
 use lib.ListN.{length, take, drop}
 use lib.Seq.{length-take-le}
-use Rattle.std.specs.Prelude.{Result as Answer, Ok, Err}
-use Rattle.std.specs.Borrow.{Bor}
+use Rattle.std.specs.Prelude.{Result as Answer, Ok}
 use Rattle.std.proofs.Common.{length-take}
 use Rattle.std.proofs.lemmas.List.{take-append-le}
 use Rattle.lexical.specs.declared.XbmPart.{XbmPart}
-use Rattle.lexical.specs.Reads.{lent}
 use Rattle.symbol.specs.Symbol.{size_of}
 use Rattle.lexical.proofs.Laws.{bind_then}
 use Rattle.symbol.proofs.Ends.{ends_pointwise}
 use Rattle.symbol.proofs.Taken.{token_span, token_fits, token_bytes}
-
--- a lent answer that is matched on
-module _ {m : Answer (Bor (List ℕ)) XbmPart} where
-  pub lent_ok : {s : Bor (List ℕ)} → m ≡ Ok s → lent m ≡ Ok s.now
-  lent_ok h = ap lent h
-
-  pub lent_err : {x : XbmPart} → m ≡ Err x → lent m ≡ Err x
-  lent_err h = ap lent h
-
-pub ruleset lent_laws = (lent_ok, lent_err)
 
 -- the width's symbol: what opens it, its token, its ending
 pub ruleset symbol_laws = (bind_then, token_span, token_fits, token_bytes, ends_pointwise, take-append-le, length-take)

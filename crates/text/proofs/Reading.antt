@@ -1,12 +1,12 @@
 -- What a step of the code says of a reader's definition. Each law's premises are what a call ensures and what a `match` or a test tells,
 -- and its conclusion is `result ≡ definition`, so `search` puts them together.
-use Rattle.std.proofs.Common.{◌≡◌, ℕ, List, eq-eqb, ne_eqb}
+use Rattle.std.proofs.Common.{◌≡◌, ℕ, List}
 use mathlib.Core.Option.{Option, none, some}
 use Rattle.std.specs.Prelude.{Option as Taken, Some, None}
 use Rattle.text.specs.declared.TextLocation.{TextLocation}
 use Rattle.text.specs.Place.{after, peeked_at}
-use Rattle.text.specs.Reader.{Result, ok, stop, Reader}
-use Rattle.text.specs.Leaf.{one, run, Move, go_on, stay, halt, fork}
+use Rattle.text.specs.Reader.{Result, ok, stop}
+use Rattle.text.specs.Leaf.{one, run, Move, go_on, stay, halt}
 use Rattle.text.proofs.Laws.{next-rest, end_rest}
 
 -- a byte
@@ -22,24 +22,6 @@ module _ {A : Type 0} (c : ℕ) (g : ℕ → Option A) (t : List ℕ) (i : TextL
   pub one_end : r ≡ None → stop c i ≡ one c g t i
   unfolding one
   one_end m = rw (end_rest t i e m)
-
--- a look at the next byte
-module _ {A : Type 0} (c x : ℕ) (p : Reader A) (y : ℕ) (q : Reader A) (t : List ℕ) (i : TextLocation) {r : Taken ℕ} {z : Result A} (e : r ≡ peeked_at t i) where
-  pub fork-first : {b : ℕ} → r ≡ Some b → b ≡ x → z ≡ p t i → z ≡ fork c x p y q t i
-  unfolding fork
-  fork-first {b} m h k = rw (next-rest t i e m, eq-eqb b x h) k
-
-  pub fork-second : {b : ℕ} → r ≡ Some b → (b ≡ x → ⊥) → b ≡ y → z ≡ q t i → z ≡ fork c x p y q t i
-  unfolding fork
-  fork-second {b} m g h k = rw (next-rest t i e m, ne_eqb b x g, eq-eqb b y h) k
-
-  pub fork-neither : {b : ℕ} → r ≡ Some b → (b ≡ x → ⊥) → (b ≡ y → ⊥) → z ≡ stop c (after b i) → z ≡ fork c x p y q t i
-  unfolding fork
-  fork-neither {b} m g h k = rw (next-rest t i e m, ne_eqb b x g, ne_eqb b y h) k
-
-  pub fork-end : r ≡ None → z ≡ stop c i → z ≡ fork c x p y q t i
-  unfolding fork
-  fork-end m k = rw (end_rest t i e m) k
 
 -- a run; z is what the whole run gives
 module _ {S A : Type 0} (c : ℕ) (step : S → ℕ → Move S A) (fin : S → Option A) (s : S) (t : List ℕ) (i : TextLocation) {z : Result A} {r : Taken ℕ} (e : r ≡ peeked_at t i) where

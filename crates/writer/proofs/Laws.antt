@@ -12,11 +12,10 @@ use lib.ListN.{length, length-take, length-replicate, replicate, take, drop}
 use lib.Seq.{take-append_seam}
 use lib.Dec.{eqb}
 use lib.IntN.{ℤ}
-use borrow.Author.Tests.{le-leb, lt-leb, not-true, not-false}
+use borrow.Author.Tests.{le-leb, lt-leb}
 use Rattle.text.specs.Place.{pick}
 use Rattle.lexical.specs.Lexical.{is_blank, is_loose}
 use Rattle.body.specs.Data.{bytes_of}
-use Rattle.mask.specs.Fault.{fault}
 use Rattle.print.specs.Output.{Output, output, puts}
 use Rattle.print.proofs.Output.{puts-start}
 use Rattle.data_text.specs.Packed.{packed}
@@ -25,15 +24,10 @@ use Rattle.header_text.specs.HeaderText.{head_text}
 use Rattle.header_text.proofs.Size.{head-short}
 use Rattle.writer.specs.Written.{whole_text, written}
 use Rattle.writer.proofs.Size.{written-length, name-short}
-use Rattle.writer.specs.Writing.{breaks, unbroken, name_limit, good_name, wrong, Writing, stored, writing, error_of, number_of, told_writing}
-use Rattle.mask.specs.declared.MaskError.{MaskError}
-use Rattle.mask.specs.declared.MaskError.TheVariants.{ZeroSide as NoSide, CellCount as OtherCount, CellValue as NoCell}
-use Rattle.mask.specs.Fault.{error_number}
-use Rattle.writer.specs.declared.XbmEncodeError.{XbmEncodeError}
-use Rattle.writer.specs.declared.XbmEncodeError.TheVariants.{BadName, ZeroSide, CellCount, CellValue, ShortOutput}
-use Rattle.std.specs.Prelude.{[], ◌∷◌, ◌&&◌, Result as Answer, Ok, Err}
+use Rattle.writer.specs.Writing.{breaks, unbroken, wrong, stored, told_writing}
+use Rattle.writer.specs.declared.XbmEncodeError.TheVariants.{ShortOutput}
+use Rattle.std.specs.Prelude.{[], ◌∷◌, ◌&&◌, Ok, Err}
 use Rattle.std.specs.List.{list_all}
-use Rattle.text.specs.Outcome.{unplaced}
 
 -- ---- names
 
@@ -46,37 +40,13 @@ breaks-is b = go (eqb b 32)
     go true = refl
     go false = refl
 
-unbroken-is : (name : List ℕ) → list_all (λ b. not (is_loose b)) name ≡ unbroken name
-unbroken-is [] = refl
-unbroken-is (b ∷ w) = rw (unbroken-is w, breaks-is b) (go (breaks b))
+pub unbroken_is : (name : List ℕ) → list_all (λ b. not (is_loose b)) name ≡ unbroken name
+unbroken_is [] = refl
+unbroken_is (b ∷ w) = rw (unbroken_is w, breaks-is b) (go (breaks b))
   where
     go : (t : Bool) → not t && unbroken w ≡ pick t false (unbroken w)
     go true = refl
     go false = refl
-
-module _ (name : List ℕ) where
-  pub good-long : name_limit < length name → false ≡ good_name name
-  good-long h = rw (lt-leb (length name) name_limit h)
-
-  pub good-short : {t : Bool} → length name ≤ name_limit → t ≡ list_all (λ b. not (is_loose b)) name → t ≡ good_name name
-  good-short {t} h e = rw (le-leb (length name) name_limit h) (e ∙ unbroken-is name)
-
-  module _ (w h : ℕ) (cells : List ℕ) {t : Bool} where
-    pub wrong_name : t ≡ good_name name → not t ≡ true → 51 ≡ wrong name w h cells
-    unfolding wrong
-    wrong_name e k = rw (← e, not-true t k)
-
-    pub wrong-mask : {r : ℕ} → t ≡ good_name name → not t ≡ false → r ≡ fault w h cells → r ≡ wrong name w h cells
-    unfolding wrong
-    wrong-mask e k f = rw (← e, not-false t k) f
-
-pub ruleset name_laws = (good-long, good-short, wrong_name, wrong-mask)
-
--- the number of a mask's error is the one that the mask's own rule has
-pub mask-number : (e : MaskError) → number_of (error_of e) ≡ error_number e
-mask-number NoSide = refl
-mask-number OtherCount = refl
-mask-number NoCell = refl
 
 -- ---- a mask with which nothing is wrong
 
@@ -129,23 +99,3 @@ module _ (name : List ℕ) (w h : ℕ) (cells : List ℕ) (k : wrong name w h ce
           rw (ap (λ (o : Output). o.at) u, ap (λ (o : Output). o.bytes) u, le-leb (length (written name w h hot cells)) (length out) fits)
 
 pub ruleset sound_laws = (head-within, head-part, data-fits, end_fits, stored_short, stored-long)
-
--- ---- the call
-
-module _ (name : List ℕ) (w h : ℕ) (hot : Option (ℤ × ℤ)) (cells out : List ℕ) where
-  pub writing-wrong : {e : XbmEncodeError} {r : Answer ℕ XbmEncodeError} → number_of e ≡ wrong name w h cells → r ≡ Err e → told_writing r out ≡ writing name w h hot cells out
-  unfolding writing
-  writing-wrong {e} k n = rw (n, ← k) (go e)
-    where
-      go : (x : XbmEncodeError) → told_writing (Err x) out ≡ pick (eqb (number_of x) 0) (stored (written name w h hot cells) out) (record { answer = unplaced (number_of x); bytes = out })
-      go BadName = refl
-      go ZeroSide = refl
-      go CellCount = refl
-      go CellValue = refl
-      go ShortOutput = refl
-
-  pub writing-sound : {z : Writing} → 0 ≡ wrong name w h cells → z ≡ stored (written name w h hot cells) out → z ≡ writing name w h hot cells out
-  unfolding writing
-  writing-sound i k = rw (← i) k
-
-pub ruleset writing_laws = (writing-wrong, writing-sound)

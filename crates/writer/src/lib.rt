@@ -65,7 +65,7 @@ fn is_unbroken(name: &[u8]) -> bool
     name.iter().all(|b| !is_loose(*b))
 }
 
-#[tactic(auto, using(crate::proofs::Laws::name_laws))]
+#[tactic(auto, using(crate::proofs::Laws::unbroken_is))]
 fn is_good_name(name: &[u8]) -> bool
     ensures { result ≡ good_name name.now }
 {
@@ -73,6 +73,7 @@ fn is_good_name(name: &[u8]) -> bool
 }
 
 // What is wrong with the name or the mask.
+#[tactic(auto, unfolding(crate::specs::Writing::wrong))]
 fn check(name: &[u8], mask: Mask<'_>) -> Result<(), XbmEncodeError>
     ensures { told_check result ≡ wrong name.now mask.entry.width mask.entry.height mask.entry.cells.now }
 {
@@ -83,18 +84,19 @@ fn check(name: &[u8], mask: Mask<'_>) -> Result<(), XbmEncodeError>
     Ok(())
 }
 
-// The whole text: a header, the data bytes, and the end.
+// The whole text: a header, the data bytes, and the end. The answer is its length (see `print::Buffer`).
 fn put_text(out: &mut [u8], header: &[u8], mask: Mask<'_>) -> usize
     ensures { output out.new result ≡ puts (whole_text header.now (packed mask.entry.width mask.entry.height mask.entry.cells.now)) (output out.old 0) }
 {
-    let mut out = Buffer { bytes: out, at: 0 };
+    let mut out = Buffer::new(out);
     out.put_bytes(header);
     put_data(&mut out, mask);
     out.put_bytes(b"};\n");
     out.at
 }
 
-// Writes a mask with which nothing is wrong. Its length is known before the first byte is put.
+// Writes a mask with which nothing is wrong. Its length is known before the first byte is put. Name, mask and hotspot stand apart, as in
+// `write_xbm`: a struct of them would be made there and taken apart at once.
 fn write_sound(
     name: &[u8],
     mask: Mask<'_>,
@@ -117,9 +119,10 @@ fn write_sound(
     Ok(put_text(out, &text[..size], mask))
 }
 
-// Writes a mask as a text to the start of `out`; the answer is its length. Checked in this order, with `out` untouched:
+// Writes a mask as a text to the start of `out`; the answer is its length (see `print::Buffer`). Checked in this order, `out` untouched:
 // 51 the name is above 250 bytes or holds a blank or newline, 52 a side is zero, 53 the cells are not width times height,
 // 54 a cell is neither 0 nor 255, 55 `out` is too short.
+#[tactic(auto, unfolding(crate::specs::Writing::writing))]
 pub fn write_xbm(
     name: &[u8],
     mask: Mask<'_>,

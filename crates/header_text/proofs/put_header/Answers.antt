@@ -12,4 +12,4 @@ unfolding head_text
 returns c =
     let p : Puts (head_text c.args.name.now c.args.header.width c.args.header.height (hot_of c.args.header.hotspot)) _ c.put_array.new.out =
     puts-four _ _ (rw (decimal-printed c.args.header.width (search rules)) at c.put_define.ensures) (rw (decimal-printed c.args.header.height (search rules)) at c.put_define-2.ensures) _ c.put_spot.ensures _ c.put_array.ensures in
-    puts-end p (search rules)
+    puts-end c.new-out.ensures.bytes c.new-out.ensures.at p (search rules)

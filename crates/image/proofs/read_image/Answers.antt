@@ -11,5 +11,5 @@ unfolding reading picture ◌>>=◌ give
 returns-in-Ok c = grind (arith, common_steps)
 
 pub returns-in-Err : goal.returns-in-Err
-unfolding reading picture ◌>>=◌ give
+unfolding reading picture ◌>>=◌
 returns-in-Err c = grind (arith, common_steps)

@@ -11,4 +11,4 @@ pub returns : goal.returns
 returns c =
     let p : Puts (accepted_text (head_of [] c.args.header) c.args.ink) _ c.put_bytes.new.self =
     puts-three _ _ (puts-two _ _ (rw c.from.ensures at c.put_field.ensures) (rw c.from-2.ensures at c.put_field-2.ensures)) c.put_hotspot_line.ensures _ (puts-two _ _ c.put_field-3.ensures c.put_bytes.ensures) in
-    puts-end p (search rules)
+    puts-end c.new-out.ensures.bytes c.new-out.ensures.at p (search rules)

@@ -15,4 +15,4 @@ returns c =
       | in-Some w ↦ refusal-placed c.args.refusal c.put_field.ensures c.from.ensures w.in-Some.is (rw w.out-is w.put_place.ensures) c.put_bytes.ensures
       | in_default w ↦ refusal-unplaced c.args.refusal c.put_field.ensures c.from.ensures w.in_default.is (rw w.out-is at c.put_bytes.ensures)
     ] in
-    puts-end p (search rules)
+    puts-end c.new-out.ensures.bytes c.new-out.ensures.at p (search rules)
