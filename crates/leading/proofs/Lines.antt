@@ -1,8 +1,8 @@
 -- Lines that are skipped: a line's rest at once, and the lines before the first define line.
-use Prim.Native.Nat.{ℕ, ◌-◌, ◌*◌, ◌^◌, ◌<◌, ◌≤◌}
+use Prim.Native.Nat.{ℕ, ◌+◌, ◌-◌, ◌*◌, ◌^◌, ◌<◌, ◌≤◌}
 use native.Mathlib.Omega.{arith}
-use borrow.Author.Tests.{eq-eqb, ne_eqb}
-use mathlib.Core.Path.{◌≡◌, refl}
+use borrow.Author.Tests.{eq-eqb, ne_eqb, lt-ltb, le-ltb}
+use mathlib.Core.Path.{◌≡◌, refl, ◌∙◌}
 use mathlib.Core.List.{List, [], ◌∷◌}
 use mathlib.Core.Bool.{true, false}
 use lib.ListN.{length, drop, length-drop}
@@ -57,13 +57,23 @@ module _ (c : ℕ) (t : List ℕ) (i : TextLocation) where
   abbrev on : List ℕ
   on = drop (byte_of i) t
 
-  pub line_left : has_left t i 1 ≡ true → length t * 1 < 2 ^ 63
-      → line_rest c t i ≡ pick (ltb (length (line_of on)) (length on)) (ok tt (past_line i (length (line_of on)))) (stop c (along_line i (length t - byte_of i)))
+  line_left : has_left t i 1 ≡ true → length t * 1 < 2 ^ 63
+      → line_rest c t i ≡ pick (ltb (length (line_of on)) (length on)) (ok tt (past_line i (length (line_of on)))) (stop c (along_line i (length (line_of on))))
   line_left h l =
       let k = left-inside t i 1 h in
       grind (arith, line_at c t on i (left-rest t i 1 h), line-past i (line_of on) k.1 (line_plain on), along-past i (line_of on) k.1 (line_plain on), line-short on, length-drop (byte_of i) t)
 
-pub ruleset line_laws = (line_none, line_left)
+  module _ (h : has_left t i 1 ≡ true) (l : length t * 1 < 2 ^ 63) {e : ℕ} (k : e ≡ byte_of i + length (line_of on)) where
+    size : e - byte_of i ≡ length (line_of on)
+    size = omega (arith, k)
+
+    pub line_ends : e < length t → line_rest c t i ≡ ok tt (past_line i (e - byte_of i))
+    line_ends g = rw (size) (line_left h l ∙ rw (lt-ltb (length (line_of on)) (length on) (omega (arith, k, length-drop (byte_of i) t))))
+
+    pub line_breaks : length t ≤ e → line_rest c t i ≡ stop c (along_line i (e - byte_of i))
+    line_breaks g = rw (size) (line_left h l ∙ rw (le-ltb (length (line_of on)) (length on) (omega (arith, k, length-drop (byte_of i) t))))
+
+pub ruleset line_laws = (line_none, line_ends, line_breaks)
 
 -- ---- lines before the first define line
 

@@ -1,5 +1,5 @@
 -- A line, up to its newline.
-use Rattle.std.specs.Prelude.{ℕ, ◌+◌, List, [], ◌∷◌, length, Bool, true, false, eqb, ltb, Option, Some, None}
+use Rattle.std.specs.Prelude.{ℕ, List, [], ◌∷◌, Bool, true, false, eqb}
 use Rattle.text.specs.Place.{pick}
 use Rattle.text.specs.Reader.{Reader, ◌>>◌}
 use Rattle.lexical.specs.Lexical.{skip, byte, is}
@@ -8,10 +8,6 @@ use Rattle.lexical.specs.Lexical.{skip, byte, is}
 abbrev pub line_of : List ℕ → List ℕ
 line_of [] = []
 line_of (b ∷ l) = pick (eqb b 10) [] (b ∷ line_of l)
-
--- where the first newline of l stands, if l stands at k
-abbrev pub newline_from : ℕ → List ℕ → Option ℕ
-newline_from k l = pick (ltb (length (line_of l)) (length l)) (Some (k + length (line_of l))) None
 
 -- any byte but a newline
 unfoldable pub in_line : ℕ → Bool

@@ -1,24 +1,25 @@
 // The lines before the first define line, skipped whole. Only this crate knows how a line's end is found.
 #![tactic(auto)]
 
-ghost use Rattle.std.specs.Prelude.{true, ◌≡◌, drop};
+ghost use Rattle.std.specs.Prelude.{true, ◌≡◌, ◌+◌, length, drop};
 ghost use Rattle.lexical.specs.Lexical.{number, leading};
 ghost use Rattle.lexical.specs.Reads.{Reads};
-ghost use Rattle.leading.specs.Line.{newline_from, line_rest};
+ghost use Rattle.leading.specs.Line.{line_of, line_rest};
 
 use lexical::XbmPart;
 use text::TextReader;
 
-// The first newline from `from` on. By index: `position` takes a fifth more instructions.
-fn line_end(text: &[u8], from: usize) -> Option<usize>
-    ensures { result ≡ newline_from from (drop from text.now) }
+// Where a line ends: at its newline, or with the text. By index, and a place in any case: `position` takes a fifth more instructions for a
+// byte, and an Option two fifths.
+fn line_end(text: &[u8], from: usize) -> usize
+    ensures { result ≡ from + length (line_of (drop from text.now)) }
 {
     for i in from..text.len() {
         if text[i] == b'\n' {
-            return Some(i);
+            return i;
         }
     }
-    None
+    text.len().max(from)
 }
 
 // The rest of a line, with its newline.
@@ -30,21 +31,20 @@ fn skip_line(r: &mut TextReader<'_>, part: XbmPart) -> Result<(), XbmPart>
         return Err(part);
     }
     let from = r.loc().byte.0 as usize;
-    match line_end(r.text, from) {
-        Some(end) => {
-            r.pass_line((end - from) as u64);
-            Ok(())
-        }
-        None => {
-            r.pass_along((r.text.len() - from) as u64);
-            Err(part)
-        }
+    let end = line_end(r.text, from);
+    let size = (end - from) as u64;
+    if end < r.text.len() {
+        r.pass_line(size);
+        Ok(())
+    } else {
+        r.pass_along(size);
+        Err(part)
     }
 }
 
-// Skip whole lines, up to the first that begins with `#`.
+// Whole lines, up to the first that begins with `#`.
 #[tactic(auto, using(crate::proofs::Lines::lines_laws))]
-pub fn skip_non_define_lines(r: &mut TextReader<'_>, part: XbmPart) -> Result<(), XbmPart>
+fn skip_lines(r: &mut TextReader<'_>, part: XbmPart) -> Result<(), XbmPart>
     ensures { Reads (leading (number part) true) r.old r.new result }
 {
     while let Some(b) = r.peek() {
@@ -54,4 +54,15 @@ pub fn skip_non_define_lines(r: &mut TextReader<'_>, part: XbmPart) -> Result<()
         skip_line(r, part)?;
     }
     Err(part)
+}
+
+// Skip whole lines, up to the first that begins with `#`. A copy moves, and its place is stored back: it stays in registers, where a
+// lent reader takes a third more instructions.
+pub fn skip_non_define_lines(r: &mut TextReader<'_>, part: XbmPart) -> Result<(), XbmPart>
+    ensures { Reads (leading (number part) true) r.old r.new result }
+{
+    let mut at = *r;
+    let answer = skip_lines(&mut at, part);
+    r.location = at.location;
+    answer
 }

@@ -43,28 +43,20 @@ module _ {A E : Type 0} {tells : E → Telling} {p : Reader A} {r₀ r₁ : Text
   pub reads-refusal : {x : E} → refuse (tells x) r₁.location ≡ p r₀.text.now r₀.location → Gives tells p r₀ r₁ (Err x)
   reads-refusal e = record { kept = k; answer = e }
 
--- one reading after another, of which the errors may differ in type
-module _ {A B E E' : Type 0} {tells : E → Telling} {tells' : E' → Telling} (p : Reader A) (f : A → Reader B) {r₀ r₁ : TextReader} {m : Answer A E} (h : Gives tells p r₀ r₁ m) where
-  pub reads-onward : {a : A} {r₂ : TextReader} {z : Answer B E'} → m ≡ Ok a → Gives tells' (f a) r₁ r₂ z → Gives tells' (p >>= f) r₀ r₂ z
+-- one reading after another
+module _ {A B E : Type 0} {tells : E → Telling} (p : Reader A) (f : A → Reader B) {r₀ r₁ : TextReader} {m : Answer A E} (h : Gives tells p r₀ r₁ m) where
+  pub reads-then : {a : A} {r₂ : TextReader} {z : Answer B E} → m ≡ Ok a → Gives tells (f a) r₁ r₂ z → Gives tells (p >>= f) r₀ r₂ z
   unfolding ◌>>=◌
-  reads-onward {a} g k =
+  reads-then {a} g k =
       let e : ok a r₁.location ≡ p r₀.text.now r₀.location = rw g at h.answer in
       let t = h.kept in
       record { kept = k.kept ∙ t; answer = rw (← e, ← t) k.answer }
 
-  pub reads-lifted : {x : E} {y : E'} {z : Answer B E'} → m ≡ Err x → z ≡ Err y → tells' y ≡ tells x → Gives tells' (p >>= f) r₀ r₁ z
-  unfolding ◌>>=◌
-  reads-lifted {x} g k t =
-      let e : refuse (tells x) r₁.location ≡ p r₀.text.now r₀.location = rw g at h.answer in
-      record { kept = h.kept; answer = rw (k, t, ← e, then-refuse (tells x) r₁.location (λ a e. f a r₀.text.now e)) }
-
--- of which they are of one type
-module _ {A B E : Type 0} {tells : E → Telling} (p : Reader A) (f : A → Reader B) {r₀ r₁ : TextReader} {m : Answer A E} (h : Gives tells p r₀ r₁ m) where
-  pub reads-then : {a : A} {r₂ : TextReader} {z : Answer B E} → m ≡ Ok a → Gives tells (f a) r₁ r₂ z → Gives tells (p >>= f) r₀ r₂ z
-  reads-then = reads-onward p f h
-
   pub reads-refused : {x : E} {z : Answer B E} → m ≡ Err x → z ≡ Err x → Gives tells (p >>= f) r₀ r₁ z
-  reads-refused g k = reads-lifted p f h g k refl
+  unfolding ◌>>=◌
+  reads-refused {x} g k =
+      let e : refuse (tells x) r₁.location ≡ p r₀.text.now r₀.location = rw g at h.answer in
+      record { kept = h.kept; answer = rw (k, ← e, then-refuse (tells x) r₁.location (λ a e. f a r₀.text.now e)) }
 
 -- after one that is not refused
 pub reads-after : {A B E : Type 0} {tells : E → Telling} (p : Reader A) (f : A → Reader B) {r₀ r₁ r₂ : TextReader} {a : A} {z : Answer B E} → Gives tells p r₀ r₁ (Ok a) → Gives tells (f a) r₁ r₂ z → Gives tells (p >>= f) r₀ r₂ z

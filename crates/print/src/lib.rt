@@ -7,8 +7,8 @@ ghost use Rattle.print.specs.Puts.{Puts};
 use itoa::Integer;
 
 // A lent buffer, and where the next byte goes. std's `write!` into one says what is left there only where it succeeds.
-// What fills one answers its length and no part of it: there is no heap, and of a buffer that an answer borrows no clause can say
-// what it holds later.
+// What fills one answers its length and no part of it: of a buffer that an answer borrows no `ensures` says what it holds later (tried; an
+// `ensures*` does, but has to be proved by hand).
 #[derive(Drop)]
 pub struct Buffer<'a> {
     pub bytes: &'a mut [u8],

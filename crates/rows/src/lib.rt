@@ -35,6 +35,7 @@ impl From<XbmPart> for RowsError {
 const COMMA_TO_MARK: u32 = 0x7830_202c;
 
 // The common `, 0xHH` at once. Past the first data byte the place is known to be sound, and is not judged again.
+#[tactic(auto, using(crate::proofs::Group::six_at))]
 fn quick_byte(r: &mut TextReader<'_>, table: &HexTable) -> Option<u8>
     requires { Sound r.old.location }
     ensures { Meets (item false) r.old r.new result }
@@ -69,6 +70,7 @@ fn next_data(r: &mut TextReader<'_>, first: bool, table: &HexTable) -> Result<u8
 
 // Fills the whole rows of `width` cells that the buffer has, as far as the picture goes. Eight cells are unpacked apart from fewer: with
 // one call for both it takes a fifth more instructions. The sides are two numbers: a struct of them would be taken apart at once.
+#[tactic(auto, using(crate::proofs::Going::going_laws))]
 pub fn read_rows(
     r: &mut TextReader<'_>,
     width: u32,

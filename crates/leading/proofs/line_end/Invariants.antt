@@ -1,8 +1,9 @@
 -- What each turn of the loop in `line_end` keeps.
+use Prim.Native.Nat.{◌+◌}
 use mathlib.Core.Path.{◌≡◌}
-use lib.ListN.{drop}
-use Rattle.leading.specs.Line.{newline_from}
+use lib.ListN.{length, drop}
+use Rattle.leading.specs.Line.{line_of}
 use Rattle.leading.proofs.line_end.Given as goal
 
 abbrev pub invariant-loop-i : goal.invariant-loop-i
-invariant-loop-i l = newline_from l.i (drop l.i l.text) ≡ newline_from l.from (drop l.from l.text)
+invariant-loop-i l = l.i + length (line_of (drop l.i l.text)) ≡ l.from + length (line_of (drop l.from l.text))

@@ -1,9 +1,9 @@
--- What each turn of the loop in `skip_non_define_lines` keeps.
+-- What each turn of the loop in `skip_lines` keeps.
 use Rattle.std.specs.Prelude.{◌-◌, true, length}
 use Rattle.text.specs.Place.{byte_of}
 use Rattle.lexical.specs.Lexical.{number, leading}
 use Rattle.lexical.proofs.Laws.{Leads}
-use Rattle.leading.proofs.skip_non_define_lines.Given as goal
+use Rattle.leading.proofs.skip_lines.Given as goal
 
 abbrev pub invariant-loop-b : goal.invariant-loop-b
 invariant-loop-b l = Leads (leading (number l.part) true) l.initial.r (leading (number l.part) true) l.r
