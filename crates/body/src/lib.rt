@@ -12,7 +12,7 @@ use text::TextReader;
 
 // What stands between two data bytes: a comma after loose space. Mostly the comma stands there at once; without that first try a data
 // byte takes a tenth more instructions.
-#[tactic(auto, using(crate::proofs::Laws::separator_at_once))]
+#[tactic(auto, using(lexical::proofs::Laws::bind_then, crate::proofs::Laws::separator_at_once), unfolding(text::specs::Leaf::one, lexical::specs::Lexical::byte))]
 fn read_separator(r: &mut TextReader<'_>) -> Result<(), XbmPart>
     ensures { Reads separator r.old r.new result }
 {

@@ -65,7 +65,7 @@ fn is_mark(b: u8) -> bool
 }
 
 // `0` and then `x` or `X`.
-#[tactic(auto, using(lexical::proofs::Laws::bind_then), unfolding(crate::specs::Hex::hex_start))]
+#[tactic(auto, using(lexical::proofs::Laws::bind_then), unfolding(text::specs::Leaf::one, lexical::specs::Lexical::byte, crate::specs::Hex::hex_start))]
 fn read_hex_start(r: &mut TextReader<'_>, part: XbmPart) -> Result<(), XbmPart>
     ensures { Reads (hex_start (number part)) r.old r.new result }
 {

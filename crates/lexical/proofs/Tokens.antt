@@ -1,78 +1,69 @@
 -- Laws of a token being taken.
-use Prim.Native.Nat.{ℕ, ◌-◌, ◌*◌, ◌^◌, ◌<◌, ◌≤◌}
+use Prim.Native.Nat.{ℕ, ◌+◌, ◌-◌, ◌*◌, ◌^◌, ◌<◌, ◌≤◌}
 use native.Mathlib.Omega.{arith}
 use borrow.Author.Tests.{lt-ltb, le-ltb}
-use mathlib.Core.Path.{◌≡◌, refl, ap, ◌∙◌}
+use mathlib.Core.Path.{◌≡◌, refl, sym, ap, ◌∙◌}
 use mathlib.Core.Option.{some}
 use mathlib.Core.List.{List, [], ◌∷◌, ◌++◌}
 use mathlib.Core.Bool.{Bool, true, false}
 use lib.ListN.{length, take, drop}
-use lib.Dec.{ltb}
 use Rattle.std.proofs.lemmas.List.Edits.{between_more}
-use Rattle.std.specs.Prelude.{Option as Taken, Some, None, Ok, Err}
+use Rattle.std.specs.Prelude.{Some, None}
 use Rattle.text.specs.declared.TextLocation.{TextLocation}
 use Rattle.text.specs.declared.TextReader.{TextReader}
-use Rattle.text.specs.Place.{after, byte_of}
-use Rattle.text.specs.TextReader.{next_of, moved_to, passed, since}
+use Rattle.text.specs.Place.{after, byte_of, past_byte, peeked_at}
+use Rattle.text.specs.TextReader.{since}
+use Rattle.text.specs.Reader.{Reader, ok, stop}
 use Rattle.text.specs.Leaf.{run}
-use Rattle.text.proofs.Laws.{next-at}
+use Rattle.text.proofs.Laws.{next-at, next_past}
 use Rattle.text.proofs.Reading.{run_on, run-stay, run-halt, run_end}
-use Rattle.lexical.specs.declared.XbmPart.{XbmPart}
-use Rattle.lexical.specs.Lexical.{number}
 use Rattle.lexical.specs.Token.{up_to, token}
-use Rattle.lexical.specs.Reads.{Reads}
-use Rattle.lexical.proofs.Laws.{passed-kept, reads-value, reads-refusal}
+use Rattle.lexical.proofs.Laws.{remains-less}
+
+-- the bytes w were taken, and the token goes on
+unfoldable pub token_from : (ℕ → Bool) → ℕ → ℕ → List ℕ → Reader (List ℕ)
+token_from ends c lim = run c (up_to ends lim) (λ w. some w)
 
 -- the bytes from `start`, where r₀ stands, up to where r stands are taken, and the token goes on from there
 pub record Taking (ends : ℕ → Bool) (c lim : ℕ) (r₀ : TextReader) (start : TextLocation) (r : TextReader) : Type 0 where
   pub kept : r.text ≡ r₀.text
-  pub began : start ≡ r₀.location
   pub came : byte_of start ≤ byte_of r.location
-  pub left : run c (up_to ends lim) (λ w. some w) (since start r) r.text.now r.location ≡ token ends c lim r₀.text.now r₀.location
+  pub left : token_from ends c lim (since start r) r.text.now r.location ≡ token ends c lim r₀.text.now r₀.location
 
-zero-of : (n : ℕ) → n - n ≡ 0
-zero-of n = omega arith
+module _ (ends : ℕ → Bool) (c lim : ℕ) where
+  -- nothing is taken where a token begins
+  pub token-begins : (p : ℕ) (t : List ℕ) (i : TextLocation) → token_from ends c lim (take (p - p) (drop p t)) t i ≡ token ends c lim t i
+  unfolding token token_from
+  token-begins p t i = let z : p - p ≡ 0 = omega arith in rw z
 
--- the bytes since a place where nothing was taken; and with one byte more
-since-none : (p : TextLocation) (r : TextReader) → p ≡ r.location → since p r ≡ []
-since-none p r e = rw e (ap (λ n. take n (drop (byte_of r.location) r.text.now)) (zero-of (byte_of r.location)))
+  module _ (t : List ℕ) (i : TextLocation) where
+    pub token-stops : (w : List ℕ) {b : ℕ} → peeked_at t i ≡ Some b → ends b ≡ true → token_from ends c lim w t i ≡ ok w i
+    unfolding token_from
+    token-stops w h y = sym (run-stay c (up_to ends lim) (λ w. some w) w t i refl h (rw y) refl)
 
-since-more : (p : TextLocation) (r : TextReader) {m : Taken ℕ} → m ≡ next_of r → {b : ℕ} → m ≡ Some b → byte_of p ≤ byte_of r.location → since p (moved_to (after b r.location) r) ≡ since p r ++ (b ∷ [])
-unfolding after
-since-more p r e h l =
-    let a = next-at r.text.now r.location e h in
-    rw (← a.1) (between_more r.text.now (byte_of p) (byte_of r.location) 0 l a.0)
+    pub token-ends : (w : List ℕ) → peeked_at t i ≡ None → token_from ends c lim w t i ≡ ok w i
+    unfolding token_from
+    token-ends w h = sym (run_end c (up_to ends lim) (λ w. some w) w t i refl h refl refl)
 
-module _ (ends : ℕ → Bool) (c lim : ℕ) (r₀ : TextReader) (start : TextLocation) where
-  pub taking-begin : start ≡ r₀.location → Taking ends c lim r₀ start r₀
-  unfolding token
-  taking-begin e = record { kept = refl; began = e; came = omega (arith, ap byte_of e); left = rw (since-none start r₀ e) }
+    pub token-full : (w : List ℕ) {b : ℕ} → peeked_at t i ≡ Some b → ends b ≡ false → lim ≤ length w → token_from ends c lim w t i ≡ stop c i
+    unfolding token_from
+    token-full w h n l = sym (run-halt c (up_to ends lim) (λ w. some w) w t i refl h (rw (n, le-ltb (length w) lim l)) refl)
 
-  module _ (r : TextReader) (i : Taking ends c lim r₀ start r) where
-    module _ {m : Taken ℕ} (e : m ≡ next_of r) where
-      pub taking-more : {b : ℕ} {t : Bool} {r₁ : TextReader} {w : List ℕ} → m ≡ Some b → t ≡ ends b → t ≡ false → w ≡ since start r → length w < lim → r₁ ≡ passed b r → length r₀.text.now * 1 < 2 ^ 63 → Taking ends c lim r₀ start r₁
-      unfolding after
-      taking-more {b = b} h y n v l k s =
-          let z : _ ≡ moved_to (after b r.location) r = passed-kept r₀ r s i.kept e h k in
-          let g : ltb (length (since start r)) lim ≡ true = lt-ltb (length (since start r)) lim (rw v at l) in
-          let o : byte_of start ≤ byte_of r.location = i.came in
-          record {
-            kept = ap (λ r. r.text) z ∙ i.kept;
-            began = i.began;
-            came = rw z (omega (arith, o));
-            left = rw z (rw (since-more start r e h o) (run_on c (up_to ends lim) (λ w. some w) (since start r) r.text.now r.location e h (rw (← y, n, g)) i.left));
-          }
+    pub token-more : (w : List ℕ) {b : ℕ} → peeked_at t i ≡ Some b → ends b ≡ false → length w < lim → length t * 1 < 2 ^ 63 → token_from ends c lim w t i ≡ token_from ends c lim (w ++ b ∷ []) t (past_byte i b)
+    unfolding token_from
+    token-more w {b} h n l s =
+        let z : past_byte i b ≡ after b i = next_past t i refl h s in
+        sym (run_on c (up_to ends lim) (λ w. some w) w t i refl h (rw (n, lt-ltb (length w) lim l)) refl) ∙ ap (λ q. token_from ends c lim (w ++ b ∷ []) t q) (sym z)
 
-      pub taking-stop : {b : ℕ} {t : Bool} {w : List ℕ} → m ≡ Some b → t ≡ ends b → t ≡ true → w ≡ since start r → Reads (token ends c lim) r₀ r (Ok w)
-      taking-stop h y n v = reads-value i.kept (rw v (run-stay c (up_to ends lim) (λ w. some w) (since start r) r.text.now r.location e h (rw (← y, n)) i.left))
+-- the bytes since a place, with one byte more
+module _ (t : List ℕ) (i : TextLocation) {b : ℕ} (h : peeked_at t i ≡ Some b) (s : length t * 1 < 2 ^ 63) where
+  pub byte-more : (peeked_at t i ≡ peeked_at t i) × (byte_of (past_byte i b) ≡ byte_of i + 1)
+  unfolding after
+  byte-more = (refl, ap byte_of (next_past t i refl h s))
 
-      pub taking-end : {w : List ℕ} → m ≡ None → w ≡ since start r → Reads (token ends c lim) r₀ r (Ok w)
-      taking-end h v = reads-value i.kept (rw v (run_end c (up_to ends lim) (λ w. some w) (since start r) r.text.now r.location e h refl i.left))
+  pub since-more : (p : ℕ) → p ≤ byte_of i → take (byte_of (past_byte i b) - p) (drop p t) ≡ take (byte_of i - p) (drop p t) ++ b ∷ []
+  since-more p l =
+      let a = next-at t i refl h in
+      rw (byte-more.1, ← a.1) (between_more t p (byte_of i) 0 l a.0)
 
-pub taking-full : (ends : ℕ → Bool) (part : XbmPart) (lim : ℕ) (r₀ : TextReader) (start : TextLocation) (r : TextReader) {m : Taken ℕ} {b : ℕ} {t : Bool} {w : List ℕ} → Taking ends (number part) lim r₀ start r → m ≡ next_of r
-    → m ≡ Some b → t ≡ ends b → t ≡ false → w ≡ since start r → lim ≤ length w → Reads (token ends (number part) lim) r₀ r (Err part)
-taking-full ends part lim r₀ start r i e h y n v l =
-    reads-refusal i.kept
-    (run-halt (number part) (up_to ends lim) (λ w. some w) (since start r) r.text.now r.location e h (rw (← y, n, le-ltb (length (since start r)) lim (rw v at l))) i.left)
-
-pub ruleset taking_laws = (taking-more, taking-stop, taking-end, taking-full)
+pub ruleset taking_laws = (token-begins, token-stops, token-ends, token-full, token-more, byte-more, since-more, remains-less)

@@ -4,7 +4,7 @@
 
 ghost use Rattle.std.specs.Prelude.{◌≡◌, ℕ, Bool, Ok};
 ghost use Rattle.lexical.specs.Lexical.{is_blank, is_loose, number, any_byte, byte, skip, gap, fixed, line_end};
-ghost use Rattle.lexical.specs.Class.{Decides};
+ghost use Rattle.lexical.specs.Class.{Decides, Judged};
 ghost use Rattle.lexical.specs.Reads.{Reads, lent};
 ghost use Rattle.lexical.specs.Token.{token};
 
@@ -47,6 +47,7 @@ pub fn is_loose(b: u8) -> bool
 }
 
 // Past the bytes of a class, also none.
+#[tactic(auto, using(crate::proofs::Laws::skip_laws))]
 fn skip_while<F: Fn(u8) -> bool>(r: &mut TextReader<'_>, class: F)
     requires { F.IsAlwaysCallable class }
     ensures { (g : ℕ → Bool) → Decides (F.post class) g → Reads (skip g) r.old r.new (Ok tt) }
@@ -66,7 +67,7 @@ pub fn read_byte_of<F: Fn(u8) -> bool>(
     part: XbmPart,
 ) -> Result<(), XbmPart>
     requires { F.IsAlwaysCallable class }
-    ensures { (g : ℕ → Bool) → Decides (F.post class) g → Reads (byte (number part) g) r.old r.new result }
+    ensures { Judged (F.post class) part r.old r.new result }
 {
     match r.next() {
         Some(b) if class(b) => Ok(()),
@@ -81,8 +82,15 @@ pub fn read_optional_whitespace(r: &mut TextReader<'_>)
     skip_while(r, is_loose);
 }
 
+// Past the blanks, also none.
+fn skip_blanks(r: &mut TextReader<'_>)
+    ensures { Reads (skip is_blank) r.old r.new (Ok tt) }
+{
+    skip_while(r, is_blank);
+}
+
 // Read a single byte.
-#[tactic(auto, using(crate::proofs::Laws::any_taken))]
+#[tactic(auto, unfolding(crate::specs::Lexical::any_byte, text::specs::Leaf::one))]
 pub fn read_byte(r: &mut TextReader<'_>, part: XbmPart) -> Result<u8, XbmPart>
     ensures { Reads (any_byte (number part)) r.old r.new result }
 {
@@ -90,23 +98,26 @@ pub fn read_byte(r: &mut TextReader<'_>, part: XbmPart) -> Result<u8, XbmPart>
 }
 
 // Read a mixture of ' ' and '\t'. At least one character must be read.
+#[tactic(auto, using(crate::proofs::Laws::bind_then), unfolding(crate::specs::Lexical::gap, crate::specs::Lexical::byte, text::specs::Leaf::one))]
 pub fn read_whitespace_gap(r: &mut TextReader<'_>, part: XbmPart) -> Result<(), XbmPart>
     ensures { Reads (gap (number part)) r.old r.new result }
 {
     read_byte_of(r, is_blank, part)?;
-    skip_while(r, is_blank);
+    skip_blanks(r);
     Ok(())
 }
 
 // Read a mixture of ' ' and '\t', until reading '\n'.
+#[tactic(auto, using(crate::proofs::Laws::bind_then), unfolding(crate::specs::Lexical::line_end, crate::specs::Lexical::byte, text::specs::Leaf::one))]
 pub fn read_to_newline(r: &mut TextReader<'_>, part: XbmPart) -> Result<(), XbmPart>
     ensures { Reads (line_end (number part)) r.old r.new result }
 {
-    skip_while(r, is_blank);
+    skip_blanks(r);
     read_byte_of(r, |b| b == b'\n', part)
 }
 
 // Read precisely the string `s`.
+#[tactic(auto, using(crate::proofs::Laws::fixed_laws), unfolding(crate::specs::Lexical::byte, text::specs::Leaf::one))]
 pub fn read_fixed_string(r: &mut TextReader<'_>, s: &[u8], part: XbmPart) -> Result<(), XbmPart>
     ensures { Reads (fixed (number part) s.now) r.old r.new result }
 {
@@ -117,6 +128,7 @@ pub fn read_fixed_string(r: &mut TextReader<'_>, s: &[u8], part: XbmPart) -> Res
 }
 
 // Read a token of at most `limit` bytes, until ' ' or '\t' or '\n' or the end is found: its bytes, as a part of the text.
+#[tactic(auto, using(crate::proofs::Tokens::taking_laws))]
 pub fn read_until_whitespace<'a>(
     r: &mut TextReader<'a>,
     limit: usize,

@@ -107,7 +107,7 @@ fn past_byte(place: TextLocation, b: u8) -> TextLocation
 
 // A lent text, and the place of its next byte.
 #[repr(C)]
-#[derive(Clone, Copy)]
+#[derive(Clone, Copy, Debug, PartialEq, Eq)]
 pub struct TextReader<'a> {
     pub text: &'a [u8],
     pub location: TextLocation,
@@ -163,17 +163,13 @@ impl<'a> TextReader<'a> {
         false
     }
 
-    // Consume the next byte. At the end, and at a foreign place, nothing. The newline is tested here again and not by `past_byte`: so the
-    // test stays a branch, and is gone where the byte is known.
+    // Consume the next byte. At the end, and at a foreign place, nothing.
+    #[tactic(auto, using(crate::proofs::Laws::onward_is))]
     pub fn next(&mut self) -> Option<u8>
         ensures { (result ≡ next_of self.old) × (self.new ≡ moved_on self.old) }
     {
         let b = self.peek()?;
-        if b == b'\n' {
-            self.location = past_line(self.location, 0);
-        } else {
-            self.location = along(self.location, 1);
-        }
+        self.pass(b);
         Some(b)
     }
 
