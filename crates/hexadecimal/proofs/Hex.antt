@@ -10,19 +10,19 @@ use mathlib.Core.List.{List, [], ◌∷◌}
 use mathlib.Core.Bool.{Bool, true, false}
 use lib.ListN.{length, get_or}
 use lib.Dec.{ltb}
-use Rattle.std.specs.Prelude.{Option as Value, Some, None, MatchOption, ok_or, Result as Answer, Ok}
+use Rattle.std.specs.Prelude.{Option as Value, Some, None, ok_or, Result as Answer, Ok}
 use Rattle.text.specs.declared.TextLocation.{TextLocation}
 use Rattle.text.specs.declared.TextReader.{TextReader}
 use Rattle.text.specs.Place.{pick, rest, after}
 use Rattle.text.specs.TextReader.{next_of, moved_on}
-use Rattle.text.specs.Reader.{ok}
-use Rattle.text.specs.Leaf.{one, first, judge}
+use Rattle.text.specs.Reader.{ok, then, ◌>>=◌}
+use Rattle.text.specs.Leaf.{give, one, first, judge}
 use Rattle.text.proofs.Laws.{reader-moved}
 use Rattle.lexical.specs.declared.XbmPart.{XbmPart}
 use Rattle.lexical.specs.Lexical.{number}
 use Rattle.lexical.specs.Reads.{Reads}
 use Rattle.lexical.proofs.Laws.{one-value, one-refusal, one-lacks, unmoved}
-use Rattle.hexadecimal.specs.Hex.{hex_of, value_of, values_from, hex_table, hexv, hex_digit}
+use Rattle.hexadecimal.specs.Hex.{hex_of, value_of, values_from, hex_table, hexv, hex_digit, hex_start, hex_digits, hex_unit, hex_byte}
 
 -- what `hex_value` answers
 module _ (b : ℕ) {r : Value ℕ} (e : r ≡ value_of b) where
@@ -43,18 +43,18 @@ module _ (b : ℕ) {r : Value ℕ} (e : r ≡ value_of b) where
       go false u = refl
 
 -- a digit, taken
-pub digit_taken : (part : XbmPart) (r₀ : TextReader) {r₁ : TextReader} {m : Value ℕ} (o : Value ℕ) {z : Answer ℕ XbmPart} → m ≡ next_of r₀ → length r₀.text.now * 1 < 2 ^ 63 → r₁ ≡ moved_on r₀ → MatchOption m (o ≡ None) (λ b. o ≡ value_of b)
-    → z ≡ ok_or o part → Reads (hex_digit (number part)) r₀ r₁ z
-unfolding hex_digit
-digit_taken part r₀ {r₁ = r₁} {m = m} o {z = z} e l k = go m refl
-  where
-    fin : (b : ℕ) → m ≡ Some b → o ≡ value_of b → (w : Value ℕ) → o ≡ w → z ≡ ok_or o part → Reads (one (number part) hexv) r₀ r₁ z
-    fin b h v None w t = rw (t, w) (one-refusal part hexv e h (reader-moved r₀ e h l k) (hex-none b v w))
-    fin b h v (Some d) w t = rw (t, w) (one-value part hexv e h (reader-moved r₀ e h l k) (hex-is b v w))
+module _ (part : XbmPart) {r₀ r₁ : TextReader} {m o : Value ℕ} {z : Answer ℕ XbmPart} (e : m ≡ next_of r₀) (l : length r₀.text.now * 1 < 2 ^ 63) (k : r₁ ≡ moved_on r₀) (t : z ≡ ok_or o part) where
+  pub digit_lacks : m ≡ None → o ≡ None → Reads (hex_digit (number part)) r₀ r₁ z
+  unfolding hex_digit
+  digit_lacks h v = rw (t, v) (one-lacks part hexv e h (unmoved r₀ e k h))
 
-    go : (n : Value ℕ) → m ≡ n → MatchOption n (o ≡ None) (λ b. o ≡ value_of b) → z ≡ ok_or o part → Reads (one (number part) hexv) r₀ r₁ z
-    go None h v t = rw (t, v) (one-lacks part hexv e h (unmoved r₀ e k h))
-    go (Some b) h v t = fin b h v o refl t
+  pub digit_taken : {b : ℕ} → m ≡ Some b → o ≡ value_of b → Reads (hex_digit (number part)) r₀ r₁ z
+  unfolding hex_digit
+  digit_taken {b} h v = go o refl
+    where
+      go : (w : Value ℕ) → o ≡ w → Reads (one (number part) hexv) r₀ r₁ z
+      go None w = rw (t, w) (one-refusal part hexv e h (reader-moved r₀ e h l k) (hex-none b v w))
+      go (Some d) w = rw (t, w) (one-value part hexv e h (reader-moved r₀ e h l k) (hex-is b v w))
 
 -- a digit that was read is below 16
 digit-small : (c : ℕ) {r₀ r₁ : TextReader} {m : Answer ℕ XbmPart} {v : ℕ} → Reads (hex_digit c) r₀ r₁ m → m ≡ Ok v → v < 16
@@ -70,11 +70,17 @@ digit-small c {r₀} {r₁} {m} {v} e h = go (rest r₀.text.now r₀.location) 
     go (b ∷ l) k = fin b (ltb (hex_of b) 16) refl (after b r₀.location) k
 
 module _ (c : ℕ) {r₀ r₁ : TextReader} {m : Answer ℕ XbmPart} {v : ℕ} (e : Reads (hex_digit c) r₀ r₁ m) (h : m ≡ Ok v) where
-  pub hi-fits : Fits w8 (v * 16)
-  hi-fits = let a = digit-small c e h in omega arith
+  pub hi_fits : Fits w8 (v * 16)
+  hi_fits = let a = digit-small c e h in omega arith
 
   pub byte_fits : {r₂ r₃ : TextReader} {n : Answer ℕ XbmPart} {w : ℕ} → Reads (hex_digit c) r₂ r₃ n → n ≡ Ok w → Fits w8 (v * 16 + w)
   byte_fits f k = let a = digit-small c e h in let b = digit-small c f k in omega arith
+
+-- a byte, by its readings
+pub byte_then : (c : ℕ) (t : List ℕ) (i : TextLocation) → hex_byte c t i
+    ≡ then (hex_start c t i) (λ a e. then (hex_digit c t e) (λ h e. then (hex_digit c t e) (λ l e. ok (h * 16 + l) e)))
+unfolding hex_unit hex_digits ◌>>=◌ give
+byte_then c t i = refl
 
 -- the table's rule, at each entry
 values-at : (k n b : ℕ) → b < n → get_or (values_from k n) b 0 ≡ hex_of (k + b)

@@ -1,2 +1,3 @@
 -- The definitions of `hex`, by module.
 pub mod Hex
+pub mod Table
