@@ -47,6 +47,21 @@ place_of_error ZeroHeight = None
 abbrev pub refusal_of : XbmDecodeError TextLocation → Refusal
 refusal_of e = record { number = error_number e; place = place_of_error e }
 
+-- what is told of a refusal
+abbrev pub told_at : {A : Type 0} → ℕ → Option TextLocation → Outcome A
+told_at c (Some p) = refused c p
+told_at c None = unplaced c
+
+abbrev pub told_refusal : {A : Type 0} → Refusal → Outcome A
+told_refusal r = told_at r.number r.place
+
+abbrev pub told_error : {A : Type 0} → XbmDecodeError TextLocation → Outcome A
+told_error e = told_refusal (refusal_of e)
+
+-- the reader old read by p, with an error that holds no place
+abbrev pub Decodes : {A : Type 0} → Reader A → TextReader → TextReader → Answer A (XbmDecodeError (Unit {0})) → Type 0
+Decodes p old new r = Gives tells p old new r
+
 -- ---- of a picture: an error, or rows of the buffer that are not the picture's
 
 abbrev pub image_tells : {P : Type 0} → ImageError P → Telling
@@ -63,18 +78,3 @@ place_of_image_error DimensionMismatch = None
 
 abbrev pub image_refusal : ImageError TextLocation → Refusal
 image_refusal e = record { number = number_told (image_tells e); place = place_of_image_error e }
-
--- what is told of a refusal
-abbrev pub told_at : {A : Type 0} → ℕ → Option TextLocation → Outcome A
-told_at c (Some p) = refused c p
-told_at c None = unplaced c
-
-abbrev pub told_refusal : {A : Type 0} → Refusal → Outcome A
-told_refusal r = told_at r.number r.place
-
-abbrev pub told_error : {A : Type 0} → XbmDecodeError TextLocation → Outcome A
-told_error e = told_refusal (refusal_of e)
-
--- the reader old read by p, with an error that holds no place
-abbrev pub Decodes : {A : Type 0} → Reader A → TextReader → TextReader → Answer A (XbmDecodeError (Unit {0})) → Type 0
-Decodes p old new r = Gives tells p old new r

@@ -38,8 +38,8 @@ fn quick_byte(r: &mut TextReader<'_>, table: &HexTable) -> Option<u8>
     Some(hi * 16 + lo)
 }
 
-// The next data byte: the common form at once, anything else by the plain reader. The first is told by a flag, since it has no comma and its
-// place is not yet judged: read before the loops, it would be stored by a second copy of what they do.
+// The next data byte: the common form at once, anything else by the plain reader. The first is told by a flag, since it has no comma and
+// its place is not yet judged: read before the loops, it would be stored by a second copy of what they do.
 fn next_data(r: &mut TextReader<'_>, first: bool, table: &HexTable) -> Result<u8, XbmPart>
     requires { first ≡ false → Sound r.old.location }
     ensures { Reads (item first) r.old r.new result }

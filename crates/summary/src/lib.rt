@@ -36,7 +36,7 @@ fn answer_told(header: Result<(XbmHeaderData, TextLocation), Refusal>, name: usi
     }
 }
 
-// Both types are other crates', here and below, so that the orphan rule refuses `From`; in `image` it could stand, which then knew what C is told.
+// No `From` here and below: both types are other crates' (the orphan rule), and in `image` it would make the reader know what C is told.
 pub fn header_told(read: HeaderAnswer) -> Summary
     ensures { result ≡ of_header (told_header [] read.header) read.name }
 {
