@@ -6,7 +6,6 @@ ghost use Rattle.decoder.specs.Step.{told_next};
 ghost use Rattle.byte_report.specs.Next.{reported, next_number, next_report};
 
 use decoder::{StreamError, XbmStreamDecoder};
-use lexical::part_number;
 use text::{TextLocation, no_place};
 
 // A report of a place and a data byte.
@@ -38,7 +37,7 @@ pub fn tell(
         }
         Err(StreamError::Parse(part)) => {
             *report = report_of(decoder.location, 0);
-            part_number(part)
+            part.into()
         }
         Err(StreamError::Foreign) => {
             *report = report_of(no_place(), 0);

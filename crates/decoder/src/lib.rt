@@ -11,7 +11,7 @@ use text::{TextLocation, TextReader};
 
 // XBM stream decoder: the sides, how many data bytes were asked for, and the place in the text.
 #[repr(C)]
-#[derive(Clone, Copy)]
+#[derive(Clone, Copy, Debug, PartialEq, Eq)]
 pub struct XbmStreamDecoder {
     pub width: u32,
     pub height: u32,
@@ -20,6 +20,7 @@ pub struct XbmStreamDecoder {
 }
 
 // What refuses a call: a rule that is broken where the decoder then stands, or a decoder with numbers that no header of this text gave.
+// It is no `ImageError<()>`: the second case here is 9, there 31, and with one type for both each would have the case of the other.
 #[derive(Clone, Copy, Debug, PartialEq, Eq)]
 pub enum StreamError {
     Parse(XbmPart),
@@ -35,7 +36,7 @@ impl From<XbmPart> for StreamError {
 }
 
 // The next data byte, or none where none is left and the trailer is sound; and the decoder after it.
-#[derive(Clone, Copy)]
+#[derive(Clone, Copy, Debug, PartialEq, Eq)]
 pub struct Stepped {
     pub decoder: XbmStreamDecoder,
     pub answer: Result<Option<u8>, StreamError>,

@@ -5,21 +5,23 @@ use Rattle.text.specs.declared.TextReader.{TextReader}
 use Rattle.text.specs.Reader.{Reader}
 use Rattle.text.specs.Outcome.{Outcome, refused, unplaced}
 use Rattle.lexical.specs.Lexical.{number}
-use Rattle.lexical.specs.Reads.{Telling, placed, alone, Gives}
+use Rattle.lexical.specs.Reads.{Telling, placed, alone, number_told, Gives}
 use Rattle.lexical.specs.declared.XbmPart.{XbmPart}
 use Rattle.integer.specs.declared.Fault.{Fault}
 use Rattle.integer.specs.Decimal.{fault_number}
 use Rattle.error.specs.declared.XbmDecodeError.{XbmDecodeError}
 use Rattle.error.specs.declared.XbmDecodeError.TheVariants.{Parse, DecodeInteger, ZeroWidth, ZeroHeight}
+use Rattle.error.specs.declared.ImageError.{ImageError}
+use Rattle.error.specs.declared.ImageError.TheVariants.{Decode, DimensionMismatch}
 use Rattle.error.specs.declared.Refusal.{Refusal}
 
 -- the number of an integer's fault: ten for its part, from 110 on, and the fault's among them
 abbrev pub integer_number : XbmPart → Fault → ℕ
 integer_number part f = 100 + 10 * number part + fault_number f
 
--- what an error tells that holds no place
-abbrev pub tells : XbmDecodeError (Unit {0}) → Telling
-tells (Parse part u) = placed (number part)
+-- what an error tells, by document 01; the place is where it is found, whether the error holds one or not
+abbrev pub tells : {P : Type 0} → XbmDecodeError P → Telling
+tells (Parse part p) = placed (number part)
 tells (DecodeInteger part f) = alone (integer_number part f)
 tells ZeroWidth = alone 21
 tells ZeroHeight = alone 22
@@ -31,12 +33,9 @@ located p (DecodeInteger part f) = DecodeInteger part f
 located p ZeroWidth = ZeroWidth
 located p ZeroHeight = ZeroHeight
 
--- the number of an error, by document 01
-abbrev pub error_number : XbmDecodeError TextLocation → ℕ
-error_number (Parse part p) = number part
-error_number (DecodeInteger part f) = integer_number part f
-error_number ZeroWidth = 21
-error_number ZeroHeight = 22
+-- its number
+abbrev pub error_number : {P : Type 0} → XbmDecodeError P → ℕ
+error_number e = number_told (tells e)
 
 -- its place, where one is told
 abbrev pub place_of_error : XbmDecodeError TextLocation → Option TextLocation
@@ -62,3 +61,20 @@ told_error e = told_refusal (refusal_of e)
 -- the reader old read by p, with an error that holds no place
 abbrev pub Decodes : {A : Type 0} → Reader A → TextReader → TextReader → Answer A (XbmDecodeError (Unit {0})) → Type 0
 Decodes p old new r = Gives tells p old new r
+
+-- ---- of a picture: an error, or rows of the buffer that are not the picture's
+
+abbrev pub image_tells : {P : Type 0} → ImageError P → Telling
+image_tells (Decode e) = tells e
+image_tells DimensionMismatch = alone 31
+
+abbrev pub image_located : TextLocation → ImageError (Unit {0}) → ImageError TextLocation
+image_located p (Decode e) = Decode (located p e)
+image_located p DimensionMismatch = DimensionMismatch
+
+abbrev pub place_of_image_error : ImageError TextLocation → Option TextLocation
+place_of_image_error (Decode e) = place_of_error e
+place_of_image_error DimensionMismatch = None
+
+abbrev pub image_refusal : ImageError TextLocation → Refusal
+image_refusal e = record { number = number_told (image_tells e); place = place_of_image_error e }

@@ -7,7 +7,7 @@ use Rattle.text.specs.Reader.{Result, ok, stop, bad}
 use Rattle.text.specs.Outcome.{Outcome, accepted, refused, unplaced, outcome}
 use Rattle.lexical.specs.Token.{overlay}
 use Rattle.error.specs.declared.Refusal.{Refusal}
-use Rattle.error.specs.Error.{told_refusal}
+use Rattle.error.specs.Error.{image_refusal, told_refusal}
 use Rattle.symbol.specs.Symbol.{stored}
 use Rattle.header.specs.declared.XbmHeaderData.{XbmHeaderData}
 use Rattle.header.specs.Header.{Head, header}
@@ -15,7 +15,7 @@ use Rattle.header.specs.Answer.{head_of}
 use Rattle.body.specs.Data.{log_of}
 use Rattle.cells.specs.Cells.{painted, count}
 use Rattle.rows.specs.Rows.{whole}
-use Rattle.image.specs.Reading.{Reading, reading, image_refusal}
+use Rattle.image.specs.Reading.{Reading, reading}
 use Rattle.image.specs.declared.ImageAnswer.{ImageAnswer}
 use Rattle.image.specs.declared.LimitedError.{LimitedError}
 use Rattle.image.specs.declared.LimitedError.TheVariants.{TextTooLong, PictureTooLarge, Image}

@@ -1,14 +1,14 @@
 -- The reading of pixels from a text: what it answers, and what the two lent buffers hold after it. All contracts above the header
 -- cite this.
-use Rattle.std.specs.Prelude.{◌≡◌, ℕ, ◌≤◌, true, List, [], length, take, None, Result as Answer, Ok, Err}
+use Rattle.std.specs.Prelude.{◌≡◌, ℕ, ◌≤◌, true, List, [], length, take, Result as Answer, Ok, Err}
 use Rattle.text.specs.declared.TextLocation.{TextLocation}
 use Rattle.text.specs.Place.{start}
 use Rattle.text.specs.Reader.{Result, ok, stop, bad, Reader, ◌>>=◌}
 use Rattle.text.specs.Leaf.{give}
 use Rattle.text.specs.Outcome.{Outcome, accepted, outcome}
 use Rattle.lexical.specs.Token.{overlay}
-use Rattle.error.specs.declared.Refusal.{Refusal}
-use Rattle.error.specs.Error.{refusal_of, told_refusal}
+use Rattle.error.specs.declared.ImageError.{ImageError}
+use Rattle.error.specs.Error.{image_refusal, told_refusal}
 use Rattle.symbol.specs.Symbol.{stored}
 use Rattle.header.specs.declared.XbmHeaderData.{XbmHeaderData}
 use Rattle.header.specs.Header.{Head, header}
@@ -16,8 +16,6 @@ use Rattle.header.specs.Answer.{head_of}
 use Rattle.body.specs.Data.{log_of}
 use Rattle.cells.specs.Cells.{painted, count}
 use Rattle.rows.specs.Rows.{whole}
-use Rattle.image.specs.declared.ImageError.{ImageError}
-use Rattle.image.specs.declared.ImageError.TheVariants.{Decode, DimensionMismatch}
 use Rattle.image.specs.declared.ImageAnswer.{ImageAnswer}
 
 -- the header and the data bytes of a text, for a buffer of n cells, with a limit on the width's symbol
@@ -57,24 +55,20 @@ reading text name pixels = record {
 
 -- ---- what the code answers
 
-abbrev pub image_refusal : ImageError → Refusal
-image_refusal (Decode e) = refusal_of e
-image_refusal DimensionMismatch = record { number = 31; place = None }
-
-abbrev pub told_image : List ℕ → Answer XbmHeaderData ImageError → Outcome Head
+abbrev pub told_image : List ℕ → Answer XbmHeaderData (ImageError TextLocation) → Outcome Head
 told_image name (Ok d) = accepted (head_of name d)
 told_image name (Err e) = told_refusal (image_refusal e)
 
 -- an answer of the code and the buffers after it, as a reading
-abbrev pub told_reading : ImageAnswer ImageError → List ℕ → List ℕ → Reading
+abbrev pub told_reading : ImageAnswer (ImageError TextLocation) → List ℕ → List ℕ → Reading
 told_reading r name pixels = record { answer = told_image (take r.name name) r.image; name = take r.name name; symbol = name; pixels = pixels }
 
 -- reading the pixels of a text: what it answers and leaves is the reading, and the name is a part of the name buffer
-pub record Imaged (text name pixels name' pixels' : List ℕ) (r : ImageAnswer ImageError) : Type 0 where
+pub record Imaged (text name pixels name' pixels' : List ℕ) (r : ImageAnswer (ImageError TextLocation)) : Type 0 where
   pub all : told_reading r name' pixels' ≡ reading text name pixels
   pub fits : r.name ≤ length name'
 
 -- reading what follows an accepted header d, from place p on
-pub record Pictured (d : XbmHeaderData) (t : List ℕ) (p : TextLocation) (lent later : List ℕ) (r : Answer XbmHeaderData ImageError) : Type 0 where
+pub record Pictured (d : XbmHeaderData) (t : List ℕ) (p : TextLocation) (lent later : List ℕ) (r : Answer XbmHeaderData (ImageError TextLocation)) : Type 0 where
   pub answer : (name : List ℕ) → told_image name r ≡ outcome (λ (l : List ℕ). head_of name d) (whole d.width d.height (length lent) t p)
   pub stored : later ≡ painted d.width (log_of (count d.width d.height (length lent)) true t p) lent

@@ -3,44 +3,14 @@
 
 ghost use Rattle.std.specs.Prelude.{◌≡◌};
 ghost use Rattle.image.specs.Limited.{limited_refusal, Bounded, Limited, Within};
-ghost use Rattle.image.specs.Reading.{image_refusal, Pictured, Imaged};
-ghost use Rattle.image.specs.declared.ImageError.TheVariants.{Decode};
+ghost use Rattle.image.specs.Reading.{Pictured, Imaged};
 ghost use Rattle.image.specs.declared.LimitedError.TheVariants.{Image};
 
-use error::{Refusal, XbmDecodeError};
+use error::{ImageError, Refusal};
 use header::{XbmHeaderData, read_xbm_header};
 use ink::{at_most, cell_count};
-use rows::{RowsError, read_rows};
+use rows::read_rows;
 use text::{TextLocation, TextReader};
-
-// A refusal of the decoder, or a pixel buffer whose rows are not the picture's.
-#[derive(Clone, Copy, Debug, PartialEq, Eq)]
-pub enum ImageError {
-    Decode(XbmDecodeError<TextLocation>),
-    DimensionMismatch,
-}
-
-impl From<XbmDecodeError<TextLocation>> for ImageError {
-    ghost from_gives = { λ e r. r ≡ Decode e };
-
-    fn from(e: XbmDecodeError<TextLocation>) -> ImageError {
-        ImageError::Decode(e)
-    }
-}
-
-impl From<ImageError> for Refusal {
-    ghost from_gives = { λ e r. r ≡ image_refusal e };
-
-    fn from(e: ImageError) -> Refusal {
-        match e {
-            ImageError::Decode(e) => e.into(),
-            ImageError::DimensionMismatch => Refusal {
-                number: 31,
-                place: None,
-            },
-        }
-    }
-}
 
 // The most bytes that a text may have, and the most cells that a picture may have.
 #[derive(Clone, Copy, Debug, PartialEq, Eq)]
@@ -54,13 +24,13 @@ pub struct Limits {
 pub enum LimitedError {
     TextTooLong,
     PictureTooLarge,
-    Image(ImageError),
+    Image(ImageError<TextLocation>),
 }
 
-impl From<ImageError> for LimitedError {
+impl From<ImageError<TextLocation>> for LimitedError {
     ghost from_gives = { λ e r. r ≡ Image e };
 
-    fn from(e: ImageError) -> LimitedError {
+    fn from(e: ImageError<TextLocation>) -> LimitedError {
         LimitedError::Image(e)
     }
 }
@@ -90,23 +60,28 @@ pub struct ImageAnswer<E> {
 }
 
 // The rows of an accepted header, as the picture's answer.
+#[tactic(auto, using(std::proofs::lemmas::Grind::common_steps, lexical::proofs::Laws::bind_then), unfolding(text::specs::Leaf::give))]
 fn read_picture(
     mut r: TextReader<'_>,
     header: XbmHeaderData,
     pixels: &mut [u8],
-) -> Result<XbmHeaderData, ImageError>
+) -> Result<XbmHeaderData, ImageError<TextLocation>>
     ensures { Pictured header r.entry.text.now r.entry.location pixels.old pixels.new result }
 {
     match read_rows(&mut r, header.width, header.height, pixels) {
         Ok(()) => Ok(header),
-        Err(RowsError::Parse(part)) => Err(XbmDecodeError::Parse(part, r.loc()).into()),
-        Err(RowsError::DimensionMismatch) => Err(ImageError::DimensionMismatch),
+        Err(e) => Err(e.at(r.loc())),
     }
 }
 
 // The pixels of a text, its header first: as `XbmDecoder::new` and then `read_image`. Here and below name and cells stay two parameters:
 // they are buffers of two owners, lent apart, and a struct of both would be made anew in each call.
-pub fn read_image(text: &[u8], name: &mut [u8], pixels: &mut [u8]) -> ImageAnswer<ImageError>
+#[tactic(auto, using(std::proofs::lemmas::Grind::common_steps, crate::proofs::Whole::picture_then), unfolding(crate::specs::Reading::reading))]
+pub fn read_image(
+    text: &[u8],
+    name: &mut [u8],
+    pixels: &mut [u8],
+) -> ImageAnswer<ImageError<TextLocation>>
     ensures { Imaged text.now name.old pixels.old name.new pixels.new result }
 {
     let read = read_xbm_header(text, name);

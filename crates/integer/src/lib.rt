@@ -54,8 +54,10 @@ pub fn parse_i32(data: &[u8]) -> Result<i32, Fault>
 }
 
 // The fault's number among the four of a line.
-pub fn fault_number(f: Fault) -> u32
-    ensures { result ≡ fault_number f }
-{
-    f as u32
+impl From<Fault> for u32 {
+    ghost from_gives = { λ f n. n ≡ fault_number f };
+
+    fn from(f: Fault) -> u32 {
+        f as u32
+    }
 }

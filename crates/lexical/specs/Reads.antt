@@ -12,6 +12,11 @@ pub data Telling : Type 0 where
   placed : ℕ → Telling
   alone : ℕ → Telling
 
+-- its number
+abbrev pub number_told : Telling → ℕ
+number_told (placed c) = c
+number_told (alone c) = c
+
 abbrev pub refuse : {A : Type 0} → Telling → TextLocation → Result A
 refuse (placed c) e = stop c e
 refuse (alone c) e = bad c e

@@ -24,10 +24,12 @@ pub enum XbmPart {
 }
 
 // The number of a refusal in a part.
-pub fn part_number(part: XbmPart) -> u32
-    ensures { result ≡ number part }
-{
-    part as u32
+impl From<XbmPart> for u32 {
+    ghost from_gives = { λ part n. n ≡ number part };
+
+    fn from(part: XbmPart) -> u32 {
+        part as u32
+    }
 }
 
 // Space or tab.

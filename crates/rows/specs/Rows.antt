@@ -1,16 +1,14 @@
 -- The rows of a picture, read into a buffer of n cells.
-use Rattle.std.specs.Prelude.{ℕ, ◌/◌, ◌≡◌, List, Bool, true, false, length, eqb, ltb, Result as Answer, Ok, Err}
+use Rattle.std.specs.Prelude.{ℕ, ◌/◌, ◌≡◌, List, Bool, true, false, length, eqb, ltb, Result as Answer}
 use Rattle.std.proofs.Math.Option.{none}
-use Rattle.text.specs.declared.TextLocation.{TextLocation}
 use Rattle.text.specs.declared.TextReader.{TextReader}
 use Rattle.text.specs.Reader.{Reader, ◌>>=◌, ◌>>◌}
 use Rattle.text.specs.Leaf.{give, need}
-use Rattle.text.specs.Outcome.{Outcome, accepted, refused, unplaced, outcome}
-use Rattle.lexical.specs.Lexical.{number}
+use Rattle.lexical.specs.Reads.{Gives}
+use Rattle.error.specs.declared.ImageError.{ImageError}
+use Rattle.error.specs.Error.{image_tells}
 use Rattle.body.specs.Data.{item, items, trailer, log_of}
 use Rattle.cells.specs.Cells.{painted, count}
-use Rattle.rows.specs.declared.RowsError.{RowsError}
-use Rattle.rows.specs.declared.RowsError.TheVariants.{Parse, DimensionMismatch}
 
 -- the buffer's whole rows are not the picture's
 abbrev pub mismatch : Reader (List ℕ)
@@ -29,14 +27,7 @@ whole w h n = items (count w h n) true >>= ending (eqb (n / w) h) (ltb (n / w) h
 
 -- ---- what the code answers
 
-abbrev pub told_rows : Answer (Unit {0}) RowsError → TextLocation → Outcome (Unit {0})
-told_rows (Ok u) e = accepted tt
-told_rows (Err (Parse part)) e = refused (number part) e
-told_rows (Err DimensionMismatch) e = unplaced 31
-
--- reading the rows of a picture w wide and h high with the reader old: the answer, with the place where new stands,
--- and what the buffer holds later
-pub record Filled (w h : ℕ) (old new : TextReader) (lent later : List ℕ) (r : Answer (Unit {0}) RowsError) : Type 0 where
-  pub kept : new.text ≡ old.text
-  pub answer : told_rows r new.location ≡ outcome (λ l. tt) (whole w h (length lent) old.text.now old.location)
+-- reading the rows of a picture w wide and h high with the reader old: the answer, where new stands, and what the buffer holds later
+pub record Filled (w h : ℕ) (old new : TextReader) (lent later : List ℕ) (r : Answer (Unit {0}) (ImageError (Unit {0}))) : Type 0 where
+  pub reads : Gives image_tells (whole w h (length lent) >> give tt) old new r
   pub stored : later ≡ painted w (log_of (count w h (length lent)) true old.text.now old.location) lent

@@ -5,31 +5,15 @@ ghost use Rattle.std.specs.Prelude.{◌≡◌, false};
 ghost use Rattle.text.specs.Rest.{Sound};
 ghost use Rattle.lexical.specs.Reads.{Reads};
 ghost use Rattle.body.specs.Data.{item};
-ghost use Rattle.rows.specs.declared.RowsError.TheVariants.{Parse};
 ghost use Rattle.rows.specs.Quick.{Meets};
 ghost use Rattle.rows.specs.Rows.{Filled};
 
 use body::{read_data_byte, read_trailer};
 use cells::unpack;
+use error::ImageError;
 use hexadecimal::HexTable;
 use lexical::XbmPart;
 use text::TextReader;
-
-// What ends a picture's rows: a rule that is broken where the reader then stands, or rows of the buffer that are not the picture's. The
-// decoder's `StreamError` stays apart: the other case of each is its own, 31 here and a foreign decoder there.
-#[derive(Clone, Copy, Debug, PartialEq, Eq)]
-pub enum RowsError {
-    Parse(XbmPart),
-    DimensionMismatch,
-}
-
-impl From<XbmPart> for RowsError {
-    ghost from_gives = { λ x e. e ≡ Parse x };
-
-    fn from(part: XbmPart) -> RowsError {
-        RowsError::Parse(part)
-    }
-}
 
 // `, 0x` as one number, the first byte the lowest.
 const COMMA_TO_MARK: u32 = 0x7830_202c;
@@ -54,8 +38,8 @@ fn quick_byte(r: &mut TextReader<'_>, table: &HexTable) -> Option<u8>
     Some(hi * 16 + lo)
 }
 
-// The next data byte: the common form at once, anything else by the plain reader. The first is told apart, since it has no comma and its
-// place is not yet judged.
+// The next data byte: the common form at once, anything else by the plain reader. The first is told by a flag, since it has no comma and
+// its place is not yet judged: read before the loops, it would be stored by a second copy of what they do.
 fn next_data(r: &mut TextReader<'_>, first: bool, table: &HexTable) -> Result<u8, XbmPart>
     requires { first ≡ false → Sound r.old.location }
     ensures { Reads (item first) r.old r.new result }
@@ -70,13 +54,13 @@ fn next_data(r: &mut TextReader<'_>, first: bool, table: &HexTable) -> Result<u8
 
 // Fills the whole rows of `width` cells that the buffer has, as far as the picture goes. Eight cells are unpacked apart from fewer: with
 // one call for both it takes a fifth more instructions. The sides are two numbers: a struct of them would be taken apart at once.
-#[tactic(auto, using(crate::proofs::Going::going_laws))]
+#[tactic(auto, using(crate::proofs::Going::going_laws, lexical::proofs::Laws::bind_then), unfolding(text::specs::Leaf::give))]
 pub fn read_rows(
     r: &mut TextReader<'_>,
     width: u32,
     height: u32,
     pixels: &mut [u8],
-) -> Result<(), RowsError>
+) -> Result<(), ImageError<()>>
     ensures { Filled width height r.old r.new pixels.old pixels.new result }
 {
     let w = width as usize;
@@ -104,12 +88,12 @@ pub fn read_rows(
     }
     if rows < h {
         read_data_byte(r, first)?;
-        return Err(RowsError::DimensionMismatch);
+        return Err(ImageError::DimensionMismatch);
     }
     read_trailer(r)?;
     if rows == h {
         Ok(())
     } else {
-        Err(RowsError::DimensionMismatch)
+        Err(ImageError::DimensionMismatch)
     }
 }

@@ -6,9 +6,9 @@ ghost use Rattle.header.specs.Answer.{told_header};
 ghost use Rattle.image.specs.Reading.{told_image};
 ghost use Rattle.report.specs.Report.{of_answer, of_header, of_image};
 
-use error::Refusal;
+use error::{ImageError, Refusal};
 use header::{HeaderAnswer, XbmHeaderData};
-use image::{ImageAnswer, ImageError};
+use image::ImageAnswer;
 use report::Summary;
 use text::{TextLocation, no_place};
 
@@ -36,13 +36,14 @@ fn answer_told(header: Result<(XbmHeaderData, TextLocation), Refusal>, name: usi
     }
 }
 
+// No `From` here and below: both types are other crates' (the orphan rule), and in `image` it would make the reader know what C is told.
 pub fn header_told(read: HeaderAnswer) -> Summary
     ensures { result ≡ of_header (told_header [] read.header) read.name }
 {
     answer_told(read.header.map_err(Refusal::from), read.name)
 }
 
-pub fn image_told(read: ImageAnswer<ImageError>) -> Summary
+pub fn image_told(read: ImageAnswer<ImageError<TextLocation>>) -> Summary
     ensures { result ≡ of_image (told_image [] read.image) read.name }
 {
     let image = read.image.map(|d| (d, no_place()));
