@@ -7,7 +7,6 @@ use Rattle.text.specs.Reader.{Result, ok, stop, bad, Reader, then, ◌>>=◌}
 use Rattle.text.specs.Leaf.{give}
 use Rattle.lexical.proofs.Laws.{bind_then}
 use Rattle.symbol.specs.Symbol.{opening, width_symbol}
-use Rattle.symbol.proofs.Laws.{size-taken}
 use Rattle.lines.specs.Lines.{symbol, width_line, define_line}
 use Rattle.hotspot.specs.Hotspot.{coordinate_line, spot}
 use Rattle.header.specs.Header.{Head, rest, header}
@@ -35,4 +34,4 @@ parts limit t i =
     ap (λ (p : Reader Head). p t i) e
 
 -- what a reading of the header rests on
-pub ruleset header_laws = (parts, bind_then, size-taken)
+pub ruleset header_laws = (parts, bind_then)

@@ -91,10 +91,10 @@ pub fn read_xbm_header(text: &[u8], name: &mut [u8]) -> HeaderAnswer
 {
     let mut r = TextReader::new(text);
     match read_width_symbol(&mut r, name) {
-        Ok(n) => match read_sides(&mut r, &name[..n]) {
+        Ok(symbol) => match read_sides(&mut r, symbol) {
             Ok(header) => HeaderAnswer {
                 header: Ok((header, r.loc())),
-                name: n,
+                name: symbol.len(),
             },
             Err(e) => HeaderAnswer {
                 header: Err(e.at(r.loc())),
