@@ -1,7 +1,9 @@
 -- What the header's code answers, as document 01's values; and what it leaves in the lent name buffer.
-use Rattle.std.specs.Prelude.{ℕ, ◌≡◌, List, length, take, eqb, ℤ, Option as Spot, Some, None, Result as Answer, Ok, Err}
+use Rattle.std.specs.Prelude.{ℕ, ◌≡◌, List, [], length, take, eqb, ℤ, Option as Spot, Some, None, Result as Answer, Ok, Err}
+use Rattle.std.specs.Borrow.{Bor}
 use Rattle.std.proofs.Math.Option.{Option, none, some}
 use Rattle.text.specs.declared.TextLocation.{TextLocation}
+use Rattle.text.specs.declared.TextReader.{TextReader}
 use Rattle.text.specs.Place.{pick, start}
 use Rattle.text.specs.Reader.{Result, ok, stop, bad, Reader, ◌>>=◌}
 use Rattle.text.specs.Outcome.{Outcome, accepted, Ended, ending_at, shown}
@@ -11,10 +13,10 @@ use Rattle.lexical.specs.declared.XbmPart.{XbmPart}
 use Rattle.lexical.specs.Token.{overlay}
 use Rattle.integer.specs.declared.Fault.{Fault}
 use Rattle.integer.specs.Decimal.{parse_u32}
-use Rattle.error.specs.Error.{told_error}
+use Rattle.error.specs.Error.{told_error, Decodes}
 use Rattle.error.specs.declared.XbmDecodeError.{XbmDecodeError}
 use Rattle.error.specs.declared.XbmDecodeError.TheVariants.{DecodeInteger}
-use Rattle.symbol.specs.Symbol.{stored}
+use Rattle.symbol.specs.Symbol.{stored_from, stored}
 use Rattle.lines.specs.Lines.{value, side, define_line}
 use Rattle.hotspot.specs.Hotspot.{spot}
 use Rattle.header.specs.Header.{Head, ending, header}
@@ -36,6 +38,15 @@ told_header name (Err e) = told_error e
 abbrev pub headed : List ℕ → Answer XbmHeaderData (XbmDecodeError (Unit {0})) → Answer Head (XbmDecodeError (Unit {0}))
 headed name (Ok d) = Ok (head_of name d)
 headed name (Err e) = Err e
+
+-- the same of one that stands beside its name, a part of the text; and that name, none of a refusal
+abbrev pub headed_by : Answer (XbmHeaderData × Bor (List ℕ)) (XbmDecodeError (Unit {0})) → Answer Head (XbmDecodeError (Unit {0}))
+headed_by (Ok r) = Ok (head_of r.1.now r.0)
+headed_by (Err e) = Err e
+
+abbrev pub name_by : Answer (XbmHeaderData × Bor (List ℕ)) (XbmDecodeError (Unit {0})) → List ℕ
+name_by (Ok r) = r.1.now
+name_by (Err e) = []
 
 -- ---- the header's parts, as the code reads them
 
@@ -59,6 +70,12 @@ abbrev pub name_length : Result Head → ℕ
 name_length (ok h e) = length h.name
 name_length (stop c e) = 0
 name_length (bad c e) = 0
+
+-- reading the header with a lent buffer, where the reader stands: its name is the start of what the buffer holds later
+pub record HeadedBy (old new : TextReader) (lent later : List ℕ) (r : Answer (XbmHeaderData × Bor (List ℕ)) (XbmDecodeError (Unit {0}))) : Type 0 where
+  pub reads : Decodes (header (length lent)) old new (headed_by r)
+  pub named : take (length (name_by r)) later ≡ name_by r
+  pub symbol : later ≡ overlay (stored_from old.location (length lent) old.text.now) lent
 
 -- reading the header of a text with a lent name buffer: the answer, the name's length, the buffer later
 pub record Headed (text lent later : List ℕ) (r : HeaderAnswer) : Type 0 where

@@ -3,7 +3,7 @@
 
 ghost use Rattle.std.specs.Prelude.{◌≡◌};
 ghost use Rattle.error.specs.Error.{Decodes};
-ghost use Rattle.header.specs.Answer.{side_of, rest_of, sides_of, headed, Headed};
+ghost use Rattle.header.specs.Answer.{side_of, rest_of, sides_of, headed, HeadedBy, Headed};
 
 use error::XbmDecodeError;
 use hotspot::read_hotspot;
@@ -39,11 +39,11 @@ fn parse_side(
 ) -> Result<u32, XbmDecodeError<()>>
     ensures { result ≡ side_of part zero digits.now }
 {
-    match parse_u32(digits) {
-        Ok(0) => Err(zero),
-        Ok(n) => Ok(n),
-        Err(fault) => Err(XbmDecodeError::DecodeInteger(part, fault)),
+    let side = parse_u32(digits).map_err(|fault| XbmDecodeError::DecodeInteger(part, fault))?;
+    if side == 0 {
+        return Err(zero);
     }
+    Ok(side)
 }
 
 // What follows the height line: `#` opens the hotspot, `s` the array line. The sides stand apart until the header is whole.
@@ -84,25 +84,32 @@ fn read_sides(r: &mut TextReader<'_>, name: &[u8]) -> Result<XbmHeaderData, XbmD
     read_rest(r, name, width, height)
 }
 
+// The header, and its name as a part of the text.
+#[tactic(auto, using(crate::proofs::Parts::header_laws))]
+fn read_header<'a>(
+    r: &mut TextReader<'a>,
+    name: &mut [u8],
+) -> Result<(XbmHeaderData, &'a [u8]), XbmDecodeError<()>>
+    ensures { HeadedBy r.old r.new name.old name.new result }
+{
+    let symbol = read_width_symbol(r, name)?;
+    let header = read_sides(r, symbol)?;
+    Ok((header, symbol))
+}
+
 // Read the XBM file header up to and including the first opening brace.
-#[tactic(auto, using(crate::proofs::Parts::header_laws), unfolding(symbol::specs::Symbol::stored))]
+#[tactic(auto, unfolding(symbol::specs::Symbol::stored))]
 pub fn read_xbm_header(text: &[u8], name: &mut [u8]) -> HeaderAnswer
     ensures { Headed text.now name.old name.new result }
 {
     let mut r = TextReader::new(text);
-    match read_width_symbol(&mut r, name) {
-        Ok(symbol) => match read_sides(&mut r, symbol) {
-            Ok(header) => HeaderAnswer {
-                header: Ok((header, r.loc())),
-                name: symbol.len(),
-            },
-            Err(e) => HeaderAnswer {
-                header: Err(e.at(r.loc())),
-                name: 0,
-            },
+    match read_header(&mut r, name) {
+        Ok((header, symbol)) => HeaderAnswer {
+            header: Ok((header, r.loc())),
+            name: symbol.len(),
         },
-        Err(part) => HeaderAnswer {
-            header: Err(XbmDecodeError::Parse(part, r.loc())),
+        Err(e) => HeaderAnswer {
+            header: Err(e.at(r.loc())),
             name: 0,
         },
     }
