@@ -5,7 +5,7 @@ use Rattle.std.proofs.Math.Option.{Option, none, some}
 use Rattle.text.specs.declared.TextLocation.{TextLocation}
 use Rattle.text.specs.declared.TextReader.{TextReader}
 use Rattle.text.specs.Place.{pick, start}
-use Rattle.text.specs.Reader.{Result, ok, stop, bad, Reader, ◌>>=◌}
+use Rattle.text.specs.Reader.{Result, ok, stop, bad, Reader, ◌>>=◌, ◌>>◌}
 use Rattle.text.specs.Outcome.{Outcome, accepted, Ended, ending_at, shown}
 use Rattle.text.specs.Ascii.{ascii}
 use Rattle.text.specs.Leaf.{give, fork}
@@ -17,9 +17,9 @@ use Rattle.error.specs.Error.{told_error, Decodes}
 use Rattle.error.specs.declared.XbmDecodeError.{XbmDecodeError}
 use Rattle.error.specs.declared.XbmDecodeError.TheVariants.{DecodeInteger}
 use Rattle.symbol.specs.Symbol.{stored_from, stored}
-use Rattle.lines.specs.Lines.{value, side, define_line}
+use Rattle.lines.specs.Lines.{value, side, define_line, array_line}
 use Rattle.hotspot.specs.Hotspot.{spot}
-use Rattle.header.specs.Header.{Head, ending, header}
+use Rattle.header.specs.Header.{Head, header}
 use Rattle.header.specs.declared.XbmHeaderData.{XbmHeaderData}
 use Rattle.header.specs.declared.HeaderAnswer.{HeaderAnswer}
 
@@ -58,12 +58,14 @@ side_in part zero (Err f) = Err (DecodeInteger part f)
 abbrev pub side_of : XbmPart → XbmDecodeError (Unit {0}) → List ℕ → Answer ℕ (XbmDecodeError (Unit {0}))
 side_of part zero w = side_in part zero (parse_u32 w)
 
--- what follows the height line; all that follows the width's symbol
-unfoldable pub rest_of : List ℕ → ℕ → ℕ → Reader Head
-rest_of name w h = fork 5 35 (spot name >>= λ s. ending name w h (some s)) 115 (ending name w h none)
+-- what follows the height line, which is the hotspot; all that follows the width's symbol
+unfoldable pub rest_of : List ℕ → Reader (Spot (ℤ × ℤ))
+rest_of name = fork 5 35 (spot name >>= λ s. array_line 5 name >> give (Some s)) 115 (array_line 5 name >> give None)
 
 unfoldable pub sides_of : List ℕ → Reader Head
-sides_of name = value 1 give >>= λ d. side 110 21 d >>= λ w. define_line 2 name (ascii "_height") >>= λ d. side 120 22 d >>= λ h. rest_of name w h
+sides_of name =
+    value 1 give >>= λ d. side 110 21 d >>= λ w. define_line 2 name (ascii "_height") >>= λ d. side 120 22 d >>= λ h.
+    rest_of name >>= λ s. give (record { name = name; width = w; height = h; hot = hot_of s })
 
 -- the length of the name handed back: none of a refused header
 abbrev pub name_length : Result Head → ℕ

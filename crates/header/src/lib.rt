@@ -26,8 +26,7 @@ pub struct XbmHeaderData {
 #[derive(Clone, Copy, Debug, PartialEq, Eq)]
 pub struct HeaderAnswer {
     pub header: Result<(XbmHeaderData, TextLocation), XbmDecodeError<TextLocation>>,
-    // Its bytes stand at the start of the lent buffer, which no answer borrows. A number and no Option, 0 beside a refusal: the name's
-    // length is told of a refusal too, since C has it so.
+    // A number, and 0 beside a refusal, since the C interface hands it out so.
     pub name: usize,
 }
 
@@ -46,15 +45,10 @@ fn parse_side(
     Ok(side)
 }
 
-// What follows the height line: `#` opens the hotspot, `s` the array line. The sides stand apart until the header is whole.
+// What follows the height line: `#` opens the hotspot, `s` the array line.
 #[tactic(auto, using(lexical::proofs::Laws::bind_then), unfolding(text::specs::Leaf::give, text::specs::Leaf::fork, crate::specs::Answer::rest_of))]
-fn read_rest(
-    r: &mut TextReader<'_>,
-    name: &[u8],
-    width: u32,
-    height: u32,
-) -> Result<XbmHeaderData, XbmDecodeError<()>>
-    ensures { Decodes (rest_of name.now width height) r.old r.new (headed name.now result) }
+fn read_rest(r: &mut TextReader<'_>, name: &[u8]) -> Result<Option<(i32, i32)>, XbmDecodeError<()>>
+    ensures { Decodes (rest_of name.now) r.old r.new result }
 {
     let hotspot = match r.peek() {
         Some(b'#') => Some(read_hotspot(r, name)?),
@@ -65,15 +59,11 @@ fn read_rest(
         }
     };
     read_array_line(r, name, XbmPart::Array)?;
-    Ok(XbmHeaderData {
-        width,
-        height,
-        hotspot,
-    })
+    Ok(hotspot)
 }
 
 // What follows the width's symbol.
-#[tactic(auto, using(lexical::proofs::Laws::bind_then), unfolding(text::specs::Leaf::need, lines::specs::Lines::positive, crate::specs::Answer::sides_of))]
+#[tactic(auto, using(lexical::proofs::Laws::bind_then), unfolding(text::specs::Leaf::give, text::specs::Leaf::need, lines::specs::Lines::positive, crate::specs::Answer::sides_of))]
 fn read_sides(r: &mut TextReader<'_>, name: &[u8]) -> Result<XbmHeaderData, XbmDecodeError<()>>
     ensures { Decodes (sides_of name.now) r.old r.new (headed name.now result) }
 {
@@ -81,7 +71,12 @@ fn read_sides(r: &mut TextReader<'_>, name: &[u8]) -> Result<XbmHeaderData, XbmD
     let width = parse_side(digits, XbmPart::Width, XbmDecodeError::ZeroWidth)?;
     let digits = read_define_line(r, name, b"_height", XbmPart::Height)?;
     let height = parse_side(digits, XbmPart::Height, XbmDecodeError::ZeroHeight)?;
-    read_rest(r, name, width, height)
+    let hotspot = read_rest(r, name)?;
+    Ok(XbmHeaderData {
+        width,
+        height,
+        hotspot,
+    })
 }
 
 // The header, and its name as a part of the text.

@@ -7,7 +7,7 @@ ghost use Rattle.name.specs.Parted.{Stored, Parted};
 use header::read_xbm_header;
 
 // The name, and the rest of the buffer behind it: the two together are all that the buffer holds from here on.
-#[derive(Clone, Copy)]
+#[derive(Clone, Copy, Debug, PartialEq, Eq)]
 pub struct Named<'n> {
     pub name: &'n [u8],
     pub rest: &'n [u8],
