@@ -39,11 +39,12 @@ abbrev pub headed : List ℕ → Answer XbmHeaderData (XbmDecodeError (Unit {0})
 headed name (Ok d) = Ok (head_of name d)
 headed name (Err e) = Err e
 
--- the same of one that stands beside its name, a part of the text; and that name, none of a refusal
+-- the same of one that stands beside its name, a part of the text
 abbrev pub headed_by : Answer (XbmHeaderData × Bor (List ℕ)) (XbmDecodeError (Unit {0})) → Answer Head (XbmDecodeError (Unit {0}))
 headed_by (Ok r) = Ok (head_of r.1.now r.0)
 headed_by (Err e) = Err e
 
+-- that name, none of a refusal
 abbrev pub name_by : Answer (XbmHeaderData × Bor (List ℕ)) (XbmDecodeError (Unit {0})) → List ℕ
 name_by (Ok r) = r.1.now
 name_by (Err e) = []
