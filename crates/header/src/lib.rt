@@ -3,7 +3,7 @@
 
 ghost use Rattle.std.specs.Prelude.{◌≡◌};
 ghost use Rattle.error.specs.Error.{Decodes};
-ghost use Rattle.header.specs.Answer.{side_of, rest_of, sides_of, headed, Headed};
+ghost use Rattle.header.specs.Answer.{side_of, rest_of, sides_of, headed, HeadedBy, Headed};
 
 use error::XbmDecodeError;
 use hotspot::read_hotspot;
@@ -26,8 +26,7 @@ pub struct XbmHeaderData {
 #[derive(Clone, Copy, Debug, PartialEq, Eq)]
 pub struct HeaderAnswer {
     pub header: Result<(XbmHeaderData, TextLocation), XbmDecodeError<TextLocation>>,
-    // Its bytes stand at the start of the lent buffer, which no answer borrows. A number and no Option, 0 beside a refusal: the name's
-    // length is told of a refusal too, since C has it so.
+    // A number, and 0 beside a refusal, since the C interface hands it out so.
     pub name: usize,
 }
 
@@ -39,22 +38,17 @@ fn parse_side(
 ) -> Result<u32, XbmDecodeError<()>>
     ensures { result ≡ side_of part zero digits.now }
 {
-    match parse_u32(digits) {
-        Ok(0) => Err(zero),
-        Ok(n) => Ok(n),
-        Err(fault) => Err(XbmDecodeError::DecodeInteger(part, fault)),
+    let side = parse_u32(digits).map_err(|fault| XbmDecodeError::DecodeInteger(part, fault))?;
+    if side == 0 {
+        return Err(zero);
     }
+    Ok(side)
 }
 
-// What follows the height line: `#` opens the hotspot, `s` the array line. The sides stand apart until the header is whole.
+// What follows the height line: `#` opens the hotspot, `s` the array line.
 #[tactic(auto, using(lexical::proofs::Laws::bind_then), unfolding(text::specs::Leaf::give, text::specs::Leaf::fork, crate::specs::Answer::rest_of))]
-fn read_rest(
-    r: &mut TextReader<'_>,
-    name: &[u8],
-    width: u32,
-    height: u32,
-) -> Result<XbmHeaderData, XbmDecodeError<()>>
-    ensures { Decodes (rest_of name.now width height) r.old r.new (headed name.now result) }
+fn read_rest(r: &mut TextReader<'_>, name: &[u8]) -> Result<Option<(i32, i32)>, XbmDecodeError<()>>
+    ensures { Decodes (rest_of name.now) r.old r.new result }
 {
     let hotspot = match r.peek() {
         Some(b'#') => Some(read_hotspot(r, name)?),
@@ -65,15 +59,11 @@ fn read_rest(
         }
     };
     read_array_line(r, name, XbmPart::Array)?;
-    Ok(XbmHeaderData {
-        width,
-        height,
-        hotspot,
-    })
+    Ok(hotspot)
 }
 
 // What follows the width's symbol.
-#[tactic(auto, using(lexical::proofs::Laws::bind_then), unfolding(text::specs::Leaf::need, lines::specs::Lines::positive, crate::specs::Answer::sides_of))]
+#[tactic(auto, using(lexical::proofs::Laws::bind_then), unfolding(text::specs::Leaf::give, text::specs::Leaf::need, lines::specs::Lines::positive, crate::specs::Answer::sides_of))]
 fn read_sides(r: &mut TextReader<'_>, name: &[u8]) -> Result<XbmHeaderData, XbmDecodeError<()>>
     ensures { Decodes (sides_of name.now) r.old r.new (headed name.now result) }
 {
@@ -81,28 +71,40 @@ fn read_sides(r: &mut TextReader<'_>, name: &[u8]) -> Result<XbmHeaderData, XbmD
     let width = parse_side(digits, XbmPart::Width, XbmDecodeError::ZeroWidth)?;
     let digits = read_define_line(r, name, b"_height", XbmPart::Height)?;
     let height = parse_side(digits, XbmPart::Height, XbmDecodeError::ZeroHeight)?;
-    read_rest(r, name, width, height)
+    let hotspot = read_rest(r, name)?;
+    Ok(XbmHeaderData {
+        width,
+        height,
+        hotspot,
+    })
+}
+
+// The header, and its name as a part of the text.
+#[tactic(auto, using(crate::proofs::Parts::header_laws))]
+fn read_header<'a>(
+    r: &mut TextReader<'a>,
+    name: &mut [u8],
+) -> Result<(XbmHeaderData, &'a [u8]), XbmDecodeError<()>>
+    ensures { HeadedBy r.old r.new name.old name.new result }
+{
+    let symbol = read_width_symbol(r, name)?;
+    let header = read_sides(r, symbol)?;
+    Ok((header, symbol))
 }
 
 // Read the XBM file header up to and including the first opening brace.
-#[tactic(auto, using(crate::proofs::Parts::header_laws), unfolding(symbol::specs::Symbol::stored))]
+#[tactic(auto, unfolding(symbol::specs::Symbol::stored))]
 pub fn read_xbm_header(text: &[u8], name: &mut [u8]) -> HeaderAnswer
     ensures { Headed text.now name.old name.new result }
 {
     let mut r = TextReader::new(text);
-    match read_width_symbol(&mut r, name) {
-        Ok(n) => match read_sides(&mut r, &name[..n]) {
-            Ok(header) => HeaderAnswer {
-                header: Ok((header, r.loc())),
-                name: n,
-            },
-            Err(e) => HeaderAnswer {
-                header: Err(e.at(r.loc())),
-                name: 0,
-            },
+    match read_header(&mut r, name) {
+        Ok((header, symbol)) => HeaderAnswer {
+            header: Ok((header, r.loc())),
+            name: symbol.len(),
         },
-        Err(part) => HeaderAnswer {
-            header: Err(XbmDecodeError::Parse(part, r.loc())),
+        Err(e) => HeaderAnswer {
+            header: Err(e.at(r.loc())),
             name: 0,
         },
     }

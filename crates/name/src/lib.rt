@@ -7,7 +7,7 @@ ghost use Rattle.name.specs.Parted.{Stored, Parted};
 use header::read_xbm_header;
 
 // The name, and the rest of the buffer behind it: the two together are all that the buffer holds from here on.
-#[derive(Clone, Copy)]
+#[derive(Clone, Copy, Debug, PartialEq, Eq)]
 pub struct Named<'n> {
     pub name: &'n [u8],
     pub rest: &'n [u8],
@@ -25,7 +25,8 @@ impl<'n> Named<'n> {
 }
 
 // Reads the header into the buffer; answers the length of the name at its start: 0 if the header is refused, where document 01 hands
-// back the empty name. A length, since no answer borrows a buffer that is spoken of afterwards.
+// back the empty name.
+// A length, since there is no heap to hold the name, and no answer borrows a buffer that is spoken of afterwards.
 pub fn store_name(text: &[u8], name: &mut [u8]) -> usize
     ensures { Stored text.now name.old name.new result }
 {

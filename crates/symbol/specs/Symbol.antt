@@ -1,5 +1,6 @@
 -- The width's symbol, a name and `_width`: what precedes it, the name in it, and the bytes that reading it stores.
 use Rattle.std.specs.Prelude.{ℕ, ◌-◌, ◌≤◌, ◌≡◌, Bool, true, false, List, [], ◌∷◌, length, take, drop, leb, eqb, Result as Answer, Ok, Err}
+use Rattle.std.specs.Borrow.{Bor}
 use Rattle.std.proofs.Math.Option.{Option, none, some}
 use Rattle.text.specs.Ascii.{ascii}
 use Rattle.text.specs.Place.{pick, start}
@@ -10,7 +11,7 @@ use Rattle.text.specs.declared.TextLocation.{TextLocation}
 use Rattle.text.specs.declared.TextReader.{TextReader}
 use Rattle.lexical.specs.declared.XbmPart.{XbmPart}
 use Rattle.lexical.specs.Token.{token, span, overlay}
-use Rattle.lexical.specs.Reads.{Reads}
+use Rattle.lexical.specs.Reads.{Reads, lent}
 
 -- ---- words
 
@@ -56,17 +57,14 @@ stored_from p limit t = stored_in limit t (opening t p)
 unfoldable pub stored : ℕ → List ℕ → List ℕ
 stored limit t = stored_from start limit t
 
--- an answer: the name stands at the start of what the buffer holds
-abbrev pub named : List ℕ → Answer ℕ XbmPart → Answer (List ℕ) XbmPart
-named held (Ok n) = Ok (take n held)
-named held (Err x) = Err x
+-- the name answered, none of a refusal
+abbrev pub name_in : Answer (Bor (List ℕ)) XbmPart → List ℕ
+name_in (Ok s) = s.now
+name_in (Err x) = []
 
-abbrev pub size_of : Answer ℕ XbmPart → ℕ
-size_of (Ok n) = n
-size_of (Err x) = 0
-
--- reading the width's symbol into a lent buffer: the name in it, within the buffer; and the buffer later
-pub record Symboled (old new : TextReader) (lent later : List ℕ) (r : Answer ℕ XbmPart) : Type 0 where
-  pub reads : Reads (width_symbol (length lent)) old new (named later r)
-  pub fits : size_of r ≤ length later
-  pub symbol : later ≡ overlay (stored_from old.location (length lent) old.text.now) lent
+-- reading the width's symbol into a lent buffer: the name in it, which is also the start of what the buffer holds later; and the buffer later
+pub record Symboled (old new : TextReader) (buffer later : List ℕ) (r : Answer (Bor (List ℕ)) XbmPart) : Type 0 where
+  pub reads : Reads (width_symbol (length buffer)) old new (lent r)
+  pub named : take (length (name_in r)) later ≡ name_in r
+  pub fits : length (name_in r) ≤ length later
+  pub symbol : later ≡ overlay (stored_from old.location (length buffer) old.text.now) buffer

@@ -29,10 +29,9 @@ fn read_opening(r: &mut TextReader<'_>) -> Result<(), XbmPart>
     read_whitespace_gap(r, XbmPart::Width)
 }
 
-// The width's symbol, stored in `name`, also what was taken of one that is too long; the answer is the length of the name in it,
-// as the C interface hands it on.
+// The width's symbol, stored in `name`, also what was taken of one that is too long; the answer is the name in it, a part of the text.
 #[tactic(auto, using(crate::proofs::Laws::symbol_laws), unfolding(text::specs::Leaf::want, crate::specs::Symbol::width_symbol, crate::specs::Symbol::before))]
-pub fn read_width_symbol(r: &mut TextReader<'_>, name: &mut [u8]) -> Result<usize, XbmPart>
+pub fn read_width_symbol<'a>(r: &mut TextReader<'a>, name: &mut [u8]) -> Result<&'a [u8], XbmPart>
     ensures { Symboled r.old r.new name.old name.new result }
 {
     read_opening(r)?;
@@ -40,8 +39,5 @@ pub fn read_width_symbol(r: &mut TextReader<'_>, name: &mut [u8]) -> Result<usiz
     let symbol = read_until_whitespace(r, name.len(), XbmPart::Width);
     let taken = r.taken_since(start);
     name[..taken.len()].copy_from_slice(taken);
-    symbol?
-        .strip_suffix(b"_width")
-        .map(<[u8]>::len)
-        .ok_or(XbmPart::Width)
+    symbol?.strip_suffix(b"_width").ok_or(XbmPart::Width)
 }
