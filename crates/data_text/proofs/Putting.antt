@@ -8,15 +8,11 @@ use Rattle.print.specs.declared.Buffer.{Buffer}
 use Rattle.print.specs.Puts.{Puts}
 use Rattle.print.proofs.Steps.{puts-none, puts-then}
 use Rattle.data_text.specs.Packed.{packed_at, packed_from}
-use Rattle.data_text.specs.DataText.{lead_text, byte_text, item_text, data_text}
+use Rattle.data_text.specs.DataText.{lead_text, byte_text, data_text}
 
--- ---- a data byte and what stands before it
-
-module _ {o o' : Buffer} where
-  pub item_put : {o₁ : Buffer} (w : ℕ) (cells : List ℕ) (k : ℕ) {b : ℕ} → Puts (lead_text k) o o₁ → b ≡ packed_at w cells k → Puts (byte_text b) o₁ o' → Puts (item_text w cells k) o o'
-  item_put w cells k {b} p e q = rw (← e) (puts-then (lead_text k) (byte_text b) p q)
-
--- ---- the data
+-- data byte k of a picture, and what stands before it
+abbrev item_text : ℕ → List ℕ → ℕ → List ℕ
+item_text w cells k = lead_text k ++ byte_text (packed_at w cells k)
 
 -- the text of a byte more
 text-more : (w : ℕ) (cells : List ℕ) (k n : ℕ) → data_text k (packed_from w cells k (suc n)) ≡ data_text k (packed_from w cells k n) ++ item_text w cells (k + n)
@@ -27,8 +23,12 @@ text-more w cells k (suc n) =
     (ap (λ (x : List ℕ). lead_text k ++ x) (sym (append_assoc (byte_text (packed_at w cells k)) (data_text (suc k) (packed_from w cells (suc k) n)) (item_text w cells (suc k + n))))
     ∙ sym (append_assoc (lead_text k) (byte_text (packed_at w cells k) ++ data_text (suc k) (packed_from w cells (suc k) n)) (item_text w cells (suc k + n))))
 
-module _ (w : ℕ) (cells : List ℕ) {o o' o'' : Buffer} where
-  pub data-more : (k : ℕ) → Puts (data_text 0 (packed_from w cells 0 k)) o o' → Puts (item_text w cells k) o' o'' → Puts (data_text 0 (packed_from w cells 0 (k + 1))) o o''
-  data-more k p q = let z : 0 + k ≡ k = omega arith in rw (add-one k, text-more w cells 0 k, z) (puts-then (data_text 0 (packed_from w cells 0 k)) (item_text w cells k) p q)
+-- what stands before a byte, and the byte
+module _ (w : ℕ) (cells : List ℕ) {o o₁ o₂ o₃ : Buffer} where
+  pub data-more : (k : ℕ) {b : ℕ} → b ≡ packed_at w cells k → Puts (data_text 0 (packed_from w cells 0 k)) o o₁ → Puts (lead_text k) o₁ o₂ → Puts (byte_text b) o₂ o₃
+      → Puts (data_text 0 (packed_from w cells 0 (k + 1))) o o₃
+  data-more k {b} e p l q =
+      let z : 0 + k ≡ k = omega arith in
+      rw (add-one k, text-more w cells 0 k, z, ← e) (puts-then (data_text 0 (packed_from w cells 0 k)) (lead_text k ++ byte_text b) p (puts-then (lead_text k) (byte_text b) l q))
 
 pub ruleset data_laws = (puts-none, data-more)

@@ -2,7 +2,6 @@
 use Rattle.std.specs.Prelude.{ℕ, suc, ◌+◌, ◌-◌, ◌*◌, ◌/◌, ◌%◌, min, List, [], ◌∷◌, ◌++◌, eqb, ltb}
 use Rattle.text.specs.Ascii.{ascii}
 use Rattle.text.specs.Place.{pick}
-use Rattle.data_text.specs.Packed.{packed_at}
 
 -- what stands before data byte k: twelve to a line, counted over the whole picture, and each line led by three spaces
 abbrev pub lead_text : ℕ → List ℕ
@@ -15,10 +14,6 @@ hex_text d = pick (ltb d 10) (48 + d) (97 + (d - 10))
 -- `0x` and two digits
 abbrev pub byte_text : ℕ → List ℕ
 byte_text b = 48 ∷ 120 ∷ hex_text (b / 16) ∷ hex_text (b % 16) ∷ []
-
--- data byte k of a picture, and what stands before it
-abbrev pub item_text : ℕ → List ℕ → ℕ → List ℕ
-item_text w cells k = lead_text k ++ byte_text (packed_at w cells k)
 
 -- the data bytes from byte k on
 abbrev pub data_text : ℕ → List ℕ → List ℕ

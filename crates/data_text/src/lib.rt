@@ -5,7 +5,7 @@ ghost use Rattle.std.specs.Prelude.{◌≡◌, ◌+◌, ◌^◌, ◌<◌, ◌≤
 ghost use Rattle.body.specs.Data.{bytes_of};
 ghost use Rattle.print.specs.Puts.{Puts};
 ghost use Rattle.data_text.specs.Packed.{bit_at, bits, packed_at, packed};
-ghost use Rattle.data_text.specs.DataText.{lead_text, hex_text, byte_text, item_text, data_text, data_length};
+ghost use Rattle.data_text.specs.DataText.{lead_text, hex_text, byte_text, data_text, data_length};
 
 use body::data_size;
 use ink::Mask;
@@ -22,7 +22,8 @@ fn bit_at(cells: &[u8], c: usize) -> u8
 }
 
 // n cells from `start` on as the bits of a byte, the least first. By an index from the last cell down: of cells skipped, taken and folded
-// in reverse the proof did not close, and a slice of them would be cut at both ends, which is no plainer.
+// in reverse the proof did not close. `start` and n stand beside the cells, since there may be fewer: a slice in their place would be
+// `&cells[start.min(cells.len())..(start + n).min(cells.len())]`, which is no plainer.
 #[tactic(auto, using(crate::proofs::Packing::pack_laws))]
 fn pack(cells: &[u8], start: usize, n: usize) -> u8
     requires { (n ≤ 8) × (start + n < 2 ^ 64) }
@@ -47,7 +48,8 @@ fn packed_byte(mask: Mask<'_>, k: usize) -> u8
     pack(mask.cells, k / row * width + u, (width - u).min(8))
 }
 
-// A hex digit in lower case. By hand: of what std's `{:x}` writes to a lent buffer its clauses say nothing where the write fails.
+// A hex digit in lower case. By hand: of what std's `{:x}` writes to a lent buffer its clauses say nothing where the write fails, and with the
+// crate `hex` `put_hex` would be no plainer: `let _ = hex::encode_to_slice([b], &mut text[2..])` fills a text of its own and drops an answer.
 fn hex_digit(d: u8) -> u8
     requires { d < 16 }
     ensures { result ≡ hex_text d }
@@ -75,21 +77,14 @@ fn put_lead(out: &mut Buffer<'_>, k: usize)
     }
 }
 
-// Data byte k and what stands before it.
-fn put_item(out: &mut Buffer<'_>, mask: Mask<'_>, k: usize)
-    requires { (0 < mask.width) × (k + 8 < 2 ^ 61) }
-    ensures { Puts (item_text mask.entry.width mask.entry.cells.now k) out.old out.new }
-{
-    put_lead(out, k);
-    put_hex(out, packed_byte(mask, k));
-}
-
-// The data bytes of a mask, from the newline after the brace up to the last digit.
+// The data bytes of a mask, from the newline after the brace up to the last digit. By their numbers, which end the lines: `chunks` of the cells
+// would be no plainer, since they leave out the bytes, all 0, of a mask with too few cells, and there are none of a width of 0.
 pub fn put_data(out: &mut Buffer<'_>, mask: Mask<'_>)
     ensures { Puts (data_text 0 (packed mask.entry.width mask.entry.height mask.entry.cells.now)) out.old out.new }
 {
     for k in 0..data_size(mask.width, mask.height) as usize {
-        put_item(out, mask, k);
+        put_lead(out, k);
+        put_hex(out, packed_byte(mask, k));
     }
 }
 

@@ -18,7 +18,7 @@ pub fn at_most(n: u64, length: usize) -> usize
     n.min(length as u64) as usize
 }
 
-// A mask in memory: its sides, and its cells row after row. No model: callers set its three fields, and clauses read them.
+// A mask in memory: its sides, and its cells row after row. No model: it would name the same three fields again.
 #[derive(Clone, Copy, Debug, PartialEq, Eq)]
 pub struct Mask<'a> {
     pub width: u32,

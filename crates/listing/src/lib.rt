@@ -26,7 +26,7 @@ fn list_text(
     Ok((header, mask.ink()))
 }
 
-// The printed text of an answer.
+// The printed text of an answer; handed back is its length (see `print::Buffer`).
 fn put_answer(out: &mut [u8], answer: Result<(XbmHeaderData, u64), Refusal>) -> usize
     ensures { output out.new result ≡ puts (answer_text answer) (output out.old 0) }
 {

@@ -1,8 +1,6 @@
 -- What a step of the code says of the lent buffer.
-use Rattle.std.specs.Prelude.{◌≡◌, ℕ, ◌+◌, ◌<◌, ◌^◌, List, [], ◌∷◌, ◌++◌, refl}
+use Rattle.std.specs.Prelude.{◌≡◌, ℕ, ◌<◌, ◌^◌, List, [], ◌∷◌, ◌++◌, refl}
 use Rattle.std.proofs.Common.{sym, ap, ◌∙◌}
-use Rattle.std.proofs.lemmas.List.{take_more}
-use lib.ListN.{length, take, get_or}
 use mathlib.Core.List.{append-nil}
 use Rattle.std.specs.Fmt as Printed
 use Rattle.print.specs.Decimal.{decimal}
@@ -20,15 +18,10 @@ module _ {o o' o'' : Buffer} where
   pub puts-then : (u v : List ℕ) → Puts u o o' → Puts v o' o'' → Puts (u ++ v) o o''
   puts-then u v p q = record { same = q.same ∙ p.same; gives = q.gives ∙ ap (puts v) p.gives ∙ sym (puts-append u v (held o)) }
 
-  pub puts-more : (s : List ℕ) (i : ℕ) → i < length s → Puts (take i s) o o' → Puts (get_or s i 0 ∷ []) o' o'' → Puts (take (i + 1) s) o o''
-  puts-more s i h p q = rw (take_more s i 0 h) (puts-then (take i s) (get_or s i 0 ∷ []) p q)
-
 module _ {o o' : Buffer} where
   -- a number as the library prints it
   pub puts-decimal : (n : ℕ) → n < 2 ^ 64 → Puts (Printed.decimal n) o o' → Puts (decimal n) o o'
   puts-decimal n h p = rw (← decimal-printed n h) p
-
-pub ruleset loop_laws = (puts-none, puts-more)
 
 -- words of several
 module _ {o o₁ o₂ : Buffer} (u v : List ℕ) (p : Puts u o o₁) (q : Puts v o₁ o₂) where

@@ -1,15 +1,16 @@
 // Bytes and decimal numbers put into a lent buffer, one after another.
 #![tactic(auto)]
 
-ghost use Rattle.std.specs.Prelude.{[], ◌∷◌, ◌≡◌};
+ghost use Rattle.std.specs.Prelude.{◌≡◌};
 ghost use Rattle.print.specs.Puts.{Puts};
 
 use itoa::Integer;
 
-// A lent buffer, and where the next byte goes. std's `write!` into one says what is left there only where it succeeds.
+// A lent buffer, and where the next byte goes. std's `write!` into one says what is left there only where it succeeds; with std's Cursor the
+// proof did not close: of its `write` no clause says that the later one has the same lent bytes. No PartialEq: `&mut [u8]` has none.
 // What fills one answers its length and no part of it: of a buffer that an answer borrows no `ensures` says what it holds later (tried; an
 // `ensures*` does, but has to be proved by hand).
-#[derive(Drop)]
+#[derive(Debug, Drop)]
 pub struct Buffer<'a> {
     pub bytes: &'a mut [u8],
     pub at: usize,
@@ -25,24 +26,15 @@ impl<'a> Buffer<'a> {
         Buffer { bytes, at: 0 }
     }
 
-    // One byte, which is dropped where no room is left.
-    #[tactic(auto, unfolding(crate::specs::Output::put, crate::specs::Output::puts))]
-    pub fn put_byte(&mut self, b: u8)
-        ensures { Puts (b ∷ []) self.old self.new }
-    {
-        if self.at < self.bytes.len() {
-            self.bytes[self.at] = b;
-            self.at += 1;
-        }
-    }
-
-    // The bytes of `s`.
+    // The bytes of `s`; those for which no room is left are dropped.
+    #[tactic(auto, using(crate::proofs::Output::puts_copied))]
     pub fn put_bytes(&mut self, s: &[u8])
         ensures { Puts s.now self.old self.new }
     {
-        for b in s {
-            self.put_byte(*b);
-        }
+        let from = self.at.min(self.bytes.len());
+        let n = s.len().min(self.bytes.len() - from);
+        self.bytes[from..from + n].copy_from_slice(&s[..n]);
+        self.at += n;
     }
 
     // The decimal digits of `n`, with a minus sign where negative.

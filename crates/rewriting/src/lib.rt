@@ -17,7 +17,8 @@ use writer::write_xbm;
 // Room for the text of every picture of so many cells.
 pub const REWRITTEN_SIZE: usize = 411140;
 
-// Rewrites a text, within limits, to the start of `out`, unless the text or the mask in it is refused.
+// Rewrites a text, within limits, to the start of `out`, unless the text or the mask in it is refused. The answer is its length (see
+// `print::Buffer`).
 #[tactic(auto, unfolding(crate::specs::Rewriting::rewriting))]
 fn rewrite_text(
     text: &[u8],

@@ -95,8 +95,8 @@ fn put_text(out: &mut [u8], header: &[u8], mask: Mask<'_>) -> usize
     out.at
 }
 
-// Writes a mask with which nothing is wrong. Its length is known before the first byte is put. Name, mask and hotspot stand apart, as in
-// `write_xbm`: a struct of them would be made there and taken apart at once.
+// Writes a mask with which nothing is wrong; the answer is the text's length (see `print::Buffer`), known before the first byte is put.
+// Name, mask and hotspot stand apart, as in `write_xbm`: a struct of them would be made there and taken apart at once.
 fn write_sound(
     name: &[u8],
     mask: Mask<'_>,
