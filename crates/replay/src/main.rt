@@ -34,10 +34,9 @@ fn read_count<R: Read>(list: &mut R) -> Option<u64> {
     Some(u64::from(u32::from_le_bytes(count)))
 }
 
-// Whether nothing is left of the list.
+// Whether nothing is left of the list, or no more of it can be read.
 fn is_at_end<R: Read>(list: &mut R) -> bool {
-    let mut more = [0u8; 1];
-    read_input(list, &mut more).unwrap_or(0) == 0
+    list.read_exact(&mut [0u8; 1]).is_err()
 }
 
 // One more case with this number, if it is one that the original gives.
@@ -76,6 +75,7 @@ fn replay_case<R: Read>(
 
 // Every case of the list, and then the summary.
 fn replay<R: Read>(list: &mut R, to: &impl Print) -> io::Result<()> {
+    // A list that begins otherwise has no case, and what is left of it is malformed.
     let cases = read_count(list).unwrap_or(0);
     let mut text = [0u8; ROOM];
     let mut tally = [0u64; NUMBERS];

@@ -2,7 +2,7 @@
 #![tactic(auto)]
 
 ghost use Rattle.std.specs.Prelude.{◌≡◌};
-ghost use Rattle.stored.specs.Record.{byte_at, number_at, told_in, record_in, counts_as, verdict_on};
+ghost use Rattle.stored.specs.Record.{number_at, told_in, record_in, counts_as, verdict_on};
 ghost use Rattle.stored.specs.Words.{words_of};
 
 use std::array::from_fn;
