@@ -32,7 +32,7 @@ pub fn read_input<R: Read>(reader: &mut R, buf: &mut [u8]) -> io::Result<usize>
     ensures retried { IfErr result (λ e. error_kind e ≢ ErrorKind.Interrupted) }
 {
     let mut done = 0;
-    // No `for` fits: a read brings any number of bytes.
+    // No `for`: a read brings any number of bytes. Nor std's `read_exact` or `copy`: they do not tell what came before a failure.
     while done < buf.len() {
         let n = read_once(reader, &mut buf[done..])?;
         if n == 0 {

@@ -14,7 +14,7 @@ fn silent(number: u64) -> Told {
     }
 }
 
-// `From` would be the form of this and of what follows, but both types of each are other crates' (the orphan rule).
+// No From, here and below: both types are other crates' (the orphan rule), and one of ours around either would be no plainer.
 fn position(place: TextLocation) -> Position {
     Position {
         byte: place.byte.0,

@@ -6,7 +6,7 @@ use input::read_input;
 use report::{is_given, print_malformed, print_summary};
 use std::fs;
 use std::io::{self, Read};
-use stored::{Difference, NUMBERS, RECORD, ROOM, Record, compare, number_at, read_record};
+use stored::{Difference, NUMBERS, RECORD, ROOM, Record, compare, read_record};
 
 mod answer;
 mod buffers;
@@ -22,23 +22,21 @@ impl From<io::Error> for Malformed {
     }
 }
 
-// The count of cases that a list begins with, and 0 if it begins otherwise. No Option: such a list prints what it printed, `0 cases`, or
-// that it is malformed at case 0 where something is left of it.
-fn read_count<R: Read>(list: &mut R) -> u64 {
+// The count of cases that a list begins with, if it begins as one. What is missing of the count's bytes is 0.
+fn read_count<R: Read>(list: &mut R) -> Option<u64> {
     let mut magic = [0u8; 8];
-    let mut count = [0u8; 4];
-    let _ = read_input(list, &mut magic);
+    list.read_exact(&mut magic).ok()?;
     if magic != *b"xbm list" {
-        return 0;
+        return None;
     }
+    let mut count = [0u8; 4];
     let _ = read_input(list, &mut count);
-    number_at(&count, 0)
+    Some(u64::from(u32::from_le_bytes(count)))
 }
 
-// Whether nothing is left of the list.
+// Whether nothing is left of the list, or no more of it can be read.
 fn is_at_end<R: Read>(list: &mut R) -> bool {
-    let mut more = [0u8; 1];
-    read_input(list, &mut more).unwrap_or(0) == 0
+    list.read_exact(&mut [0u8; 1]).is_err()
 }
 
 // One more case with this number, if it is one that the original gives.
@@ -77,7 +75,8 @@ fn replay_case<R: Read>(
 
 // Every case of the list, and then the summary.
 fn replay<R: Read>(list: &mut R, to: &impl Print) -> io::Result<()> {
-    let cases = read_count(list);
+    // A list that begins otherwise has no case, and what is left of it is malformed.
+    let cases = read_count(list).unwrap_or(0);
     let mut text = [0u8; ROOM];
     let mut tally = [0u64; NUMBERS];
     let mut differences: u64 = 0;

@@ -8,8 +8,8 @@ ghost use Rattle.report.specs.Report.{flag_of, coordinates, hot_given, report_of
 
 use text::TextLocation;
 
-// What a call of the C interface tells, its number 0 if it accepts: zeros and no hotspot where it tells nothing; `name` is the name's
-// length.
+// What a call of the C interface tells, its number 0 if it accepts: zeros and no hotspot where it tells nothing.
+// Numbers, and no Result or Option around them: so the C interface has them, and as the name no more than its length.
 #[derive(Clone, Copy, Debug, PartialEq, Eq)]
 pub struct Summary {
     pub number: u32,
@@ -20,13 +20,14 @@ pub struct Summary {
     pub hotspot: Option<(i32, i32)>,
 }
 
+// 1 if there is a hotspot: the C interface has no Option.
 fn flag(hotspot: Option<(i32, i32)>) -> u64
     ensures { result ≡ flag_of hotspot }
 {
     u64::from(hotspot.is_some())
 }
 
-// Both coordinates of the hotspot.
+// Both coordinates of the hotspot, 0 and 0 of none: the C interface has no Option, and lends two numbers.
 pub fn write_hotspot(hotspot: Option<(i32, i32)>, out: &mut [i32; 2])
     ensures { out.new ≡ coordinates hotspot }
 {
@@ -34,14 +35,14 @@ pub fn write_hotspot(hotspot: Option<(i32, i32)>, out: &mut [i32; 2])
     *out = [x, y];
 }
 
-// A hotspot given in numbers, as the C interface has it: none exactly if the flag is 0.
+// A hotspot given as a flag and two numbers, since the C interface has no Option: none exactly if the flag is 0.
 pub fn hotspot_given(has: u32, x: i32, y: i32) -> Option<(i32, i32)>
     ensures { hot_of result ≡ hot_given has x y }
 {
     (has != 0).then_some((x, y))
 }
 
-// All ten numbers of the report.
+// All ten numbers of the report, which the C interface lends; those that are not told are 0.
 pub fn write_report(s: Summary, out: &mut [u64; 10])
     ensures { out.new ≡ report_of s }
 {

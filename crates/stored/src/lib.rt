@@ -2,9 +2,10 @@
 #![tactic(auto)]
 
 ghost use Rattle.std.specs.Prelude.{◌≡◌};
-ghost use Rattle.stored.specs.Record.{byte_at, number_at, told_in, record_in, counts_as, verdict_on};
+ghost use Rattle.stored.specs.Record.{number_at, told_in, record_in, counts_as, verdict_on};
 ghost use Rattle.stored.specs.Words.{words_of};
 
+use std::array::from_fn;
 use std::fmt;
 
 // The bytes of a record.
@@ -31,7 +32,8 @@ pub struct Size {
     pub height: u64,
 }
 
-// The hotspot: how many there are, and where. No Option: a record may hold any numbers here, and another one is a difference.
+// The hotspot: how many there are, and where.
+// No Option: the stored format is fixed, its three numbers may be any, and each is compared; an Option would lose some of them.
 #[derive(Clone, Copy, Debug, Default, PartialEq, Eq)]
 pub struct Spot {
     pub count: u64,
@@ -46,8 +48,8 @@ pub struct Symbol {
     pub sum: u64,
 }
 
-// An answer, and the sums of both buffers after it. What an answer does not tell is 0 and no None: the original's record has zeros
-// there, and they are compared.
+// An answer, and the sums of both buffers after it.
+// Numbers, and no Result or Option: the stored format is fixed, what an answer does not tell is 0 there, and each number is compared.
 #[derive(Clone, Copy, Debug, Default, PartialEq, Eq)]
 pub struct Told {
     pub number: u64,
@@ -94,26 +96,15 @@ impl fmt::Display for Difference {
     }
 }
 
-// The byte at i, and 0 past the end, as the definition has it. No Option: a record's bytes are all there, so None would never come.
-fn byte_at(bytes: &[u8], i: usize) -> u8
-    ensures { result ≡ byte_at bytes.now i }
-{
-    bytes.get(i).copied().unwrap_or(0)
-}
-
-// The number in the four bytes from i on, the least first, and 0 past a record's end: no Option, as for a byte.
+// The number in the four bytes from i on, the least first, and 0 past a record's end.
+// A slice and i, and no Option: the clause is for any slice, a byte that is not there is 0 in it, and each caller would tell None as 0.
 pub fn number_at(bytes: &[u8], i: usize) -> u64
     ensures { result ≡ number_at bytes.now i }
 {
     if i >= RECORD {
         return 0;
     }
-    u64::from(u32::from_le_bytes([
-        byte_at(bytes, i),
-        byte_at(bytes, i + 1),
-        byte_at(bytes, i + 2),
-        byte_at(bytes, i + 3),
-    ]))
+    u64::from(u32::from_le_bytes(from_fn(|k| bytes.get(i + k).copied().unwrap_or(0))))
 }
 
 fn read_told(bytes: &[u8]) -> Told
@@ -143,6 +134,7 @@ fn read_told(bytes: &[u8]) -> Told
     }
 }
 
+// No From: a slice of any length may be read, of which bytes are left out, so it is no conversion that loses nothing.
 pub fn read_record(bytes: &[u8]) -> Record
     ensures { result ≡ record_in bytes.now }
 {

@@ -1,4 +1,5 @@
 // The C calls (include/xbm.h): the answers of the proved readers and of the proved writer, as numbers.
+// The C interface has no Option, Result or struct of ours but the decoder: so numbers, flags and lengths stand side by side in the calls.
 #![tactic(auto)]
 
 ghost use Rattle.std.specs.Prelude.{◌≡◌};
@@ -16,7 +17,7 @@ use report::{Summary, hotspot_given, write_hotspot, write_report};
 use summary::{header_told, image_told};
 use writer::write_xbm;
 
-// What a call tells, in numbers.
+// What a call tells, in numbers. Two buffers side by side, here and in the calls: so the C interface lends them.
 fn hand_back(s: Summary, report: &mut [u64; 10], hotspot: &mut [i32; 2]) -> u32
     ensures { Tells s report.new hotspot.new result }
 {
