@@ -21,7 +21,7 @@ use Rattle.lines.specs.Lines.{value, side, define_line, array_line}
 use Rattle.hotspot.specs.Hotspot.{spot}
 use Rattle.header.specs.Header.{Head, header}
 use Rattle.header.specs.declared.XbmHeaderData.{XbmHeaderData}
-use Rattle.header.specs.declared.HeaderAnswer.{HeaderAnswer}
+use Rattle.header.specs.declared.NamedAnswer.{NamedAnswer}
 
 abbrev pub hot_of : Spot (ℤ × ℤ) → Option (ℤ × ℤ)
 hot_of None = none
@@ -81,7 +81,7 @@ pub record HeadedBy (old new : TextReader) (lent later : List ℕ) (r : Answer (
   pub symbol : later ≡ overlay (stored_from old.location (length lent) old.text.now) lent
 
 -- reading the header of a text with a lent name buffer: the answer, the name's length, the buffer later
-pub record Headed (text lent later : List ℕ) (r : HeaderAnswer) : Type 0 where
-  pub answer : told_header (take r.name later) r.header ≡ shown (header (length lent) text start)
+pub record Headed (text lent later : List ℕ) (r : NamedAnswer (XbmHeaderData × TextLocation) (XbmDecodeError TextLocation)) : Type 0 where
+  pub answer : told_header (take r.name later) r.answer ≡ shown (header (length lent) text start)
   pub size : r.name ≡ name_length (header (length lent) text start)
   pub symbol : later ≡ overlay (stored (length lent) text) lent

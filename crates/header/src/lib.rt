@@ -21,14 +21,16 @@ pub struct XbmHeaderData {
     pub hotspot: Option<(i32, i32)>,
 }
 
-// The header and the place after its brace, or the refusal; and the length of the name that stands at the name buffer's start:
-// 0 if the header is refused.
+// What is read of a text, or its refusal; and the length of the name that stands at the name buffer's start: 0 if the header is refused.
 #[derive(Clone, Copy, Debug, PartialEq, Eq)]
-pub struct HeaderAnswer {
-    pub header: Result<(XbmHeaderData, TextLocation), XbmDecodeError<TextLocation>>,
+pub struct NamedAnswer<T, E> {
+    pub answer: Result<T, E>,
     // A number, and 0 beside a refusal, since the C interface hands it out so.
     pub name: usize,
 }
+
+// The header and the place after its brace.
+pub type HeaderAnswer = NamedAnswer<(XbmHeaderData, TextLocation), XbmDecodeError<TextLocation>>;
 
 // A side's token: an integer, and not zero.
 fn parse_side(
@@ -100,11 +102,11 @@ pub fn read_xbm_header(text: &[u8], name: &mut [u8]) -> HeaderAnswer
     let mut r = TextReader::new(text);
     match read_header(&mut r, name) {
         Ok((header, symbol)) => HeaderAnswer {
-            header: Ok((header, r.loc())),
+            answer: Ok((header, r.loc())),
             name: symbol.len(),
         },
         Err(e) => HeaderAnswer {
-            header: Err(e.at(r.loc())),
+            answer: Err(e.at(r.loc())),
             name: 0,
         },
     }

@@ -16,7 +16,7 @@ use Rattle.body.specs.Data.{log_of}
 use Rattle.cells.specs.Cells.{painted, count}
 use Rattle.rows.specs.Rows.{whole}
 use Rattle.image.specs.Reading.{Reading, reading}
-use Rattle.image.specs.declared.ImageAnswer.{ImageAnswer}
+use Rattle.header.specs.declared.NamedAnswer.{NamedAnswer}
 use Rattle.image.specs.declared.LimitedError.{LimitedError}
 use Rattle.image.specs.declared.LimitedError.TheVariants.{TextTooLong, PictureTooLarge, Image}
 
@@ -62,16 +62,16 @@ abbrev pub told_limited : List ℕ → Answer XbmHeaderData LimitedError → Out
 told_limited name (Ok d) = accepted (head_of name d)
 told_limited name (Err e) = told_refusal (limited_refusal e)
 
-abbrev pub limited_reading : ImageAnswer LimitedError → List ℕ → List ℕ → Reading
-limited_reading r name cells = record { answer = told_limited (take r.name name) r.image; name = take r.name name; symbol = name; pixels = cells }
+abbrev pub limited_reading : NamedAnswer XbmHeaderData LimitedError → List ℕ → List ℕ → Reading
+limited_reading r name cells = record { answer = told_limited (take r.name name) r.answer; name = take r.name name; symbol = name; pixels = cells }
 
 -- reading within a limit: what it answers and leaves, and the name is a part of the name buffer
-pub record Limited (limit : ℕ) (text name cells name' cells' : List ℕ) (r : ImageAnswer LimitedError) : Type 0 where
+pub record Limited (limit : ℕ) (text name cells name' cells' : List ℕ) (r : NamedAnswer XbmHeaderData LimitedError) : Type 0 where
   pub all : limited_reading r name' cells' ≡ limited limit text name cells
   pub fits : r.name ≤ length name'
 
 -- the same within both limits
-pub record Within (bytes most : ℕ) (text name cells name' cells' : List ℕ) (r : ImageAnswer LimitedError) : Type 0 where
+pub record Within (bytes most : ℕ) (text name cells name' cells' : List ℕ) (r : NamedAnswer XbmHeaderData LimitedError) : Type 0 where
   pub all : limited_reading r name' cells' ≡ within bytes most text name cells
   pub fits : r.name ≤ length name'
 

@@ -16,7 +16,7 @@ use Rattle.header.specs.Answer.{head_of}
 use Rattle.body.specs.Data.{log_of}
 use Rattle.cells.specs.Cells.{painted, count}
 use Rattle.rows.specs.Rows.{whole}
-use Rattle.image.specs.declared.ImageAnswer.{ImageAnswer}
+use Rattle.header.specs.declared.NamedAnswer.{NamedAnswer}
 
 -- the header and the data bytes of a text, for a buffer of n cells, with a limit on the width's symbol
 unfoldable pub picture : ℕ → ℕ → Reader (Head × List ℕ)
@@ -60,11 +60,11 @@ told_image name (Ok d) = accepted (head_of name d)
 told_image name (Err e) = told_refusal (image_refusal e)
 
 -- an answer of the code and the buffers after it, as a reading
-abbrev pub told_reading : ImageAnswer (ImageError TextLocation) → List ℕ → List ℕ → Reading
-told_reading r name pixels = record { answer = told_image (take r.name name) r.image; name = take r.name name; symbol = name; pixels = pixels }
+abbrev pub told_reading : NamedAnswer XbmHeaderData (ImageError TextLocation) → List ℕ → List ℕ → Reading
+told_reading r name pixels = record { answer = told_image (take r.name name) r.answer; name = take r.name name; symbol = name; pixels = pixels }
 
 -- reading the pixels of a text: what it answers and leaves is the reading, and the name is a part of the name buffer
-pub record Imaged (text name pixels name' pixels' : List ℕ) (r : ImageAnswer (ImageError TextLocation)) : Type 0 where
+pub record Imaged (text name pixels name' pixels' : List ℕ) (r : NamedAnswer XbmHeaderData (ImageError TextLocation)) : Type 0 where
   pub all : told_reading r name' pixels' ≡ reading text name pixels
   pub fits : r.name ≤ length name'
 

@@ -7,7 +7,7 @@ ghost use Rattle.image.specs.Reading.{Pictured, Imaged};
 ghost use Rattle.image.specs.declared.LimitedError.TheVariants.{Image};
 
 use error::{ImageError, Refusal};
-use header::{XbmHeaderData, read_xbm_header};
+use header::{NamedAnswer, XbmHeaderData, read_xbm_header};
 use ink::{at_most, cell_count};
 use rows::read_rows;
 use text::{TextLocation, TextReader};
@@ -51,13 +51,8 @@ impl From<LimitedError> for Refusal {
     }
 }
 
-// The picture read, or why it is not; and the name's length, 0 if the header is refused: its bytes stand at the start of the lent
-// buffer, which no answer borrows.
-#[derive(Clone, Copy, Debug, PartialEq, Eq)]
-pub struct ImageAnswer<E> {
-    pub image: Result<XbmHeaderData, E>,
-    pub name: usize,
-}
+// The header of a picture that was read.
+pub type ImageAnswer<E> = NamedAnswer<XbmHeaderData, E>;
 
 // The rows of an accepted header, as the picture's answer.
 #[tactic(auto, using(std::proofs::lemmas::Grind::common_steps, lexical::proofs::Laws::bind_then), unfolding(text::specs::Leaf::give))]
@@ -85,12 +80,12 @@ pub fn read_image(
     ensures { Imaged text.now name.old pixels.old name.new pixels.new result }
 {
     let read = read_xbm_header(text, name);
-    let image = match read.header {
+    let answer = match read.answer {
         Ok((header, location)) => read_picture(TextReader { text, location }, header, pixels),
         Err(e) => Err(e.into()),
     };
     ImageAnswer {
-        image,
+        answer,
         name: read.name,
     }
 }
@@ -125,12 +120,12 @@ fn read_limited(
     ensures { Limited limit text.now name.old cells.old name.new cells.new result }
 {
     let read = read_xbm_header(text, name);
-    let image = match read.header {
+    let answer = match read.answer {
         Ok((header, location)) => read_bounded(TextReader { text, location }, header, cells, limit),
         Err(e) => Err(LimitedError::Image(e.into())),
     };
     ImageAnswer {
-        image,
+        answer,
         name: read.name,
     }
 }
@@ -147,7 +142,7 @@ pub fn read_within(
 {
     if text.len() > limits.text {
         return ImageAnswer {
-            image: Err(LimitedError::TextTooLong),
+            answer: Err(LimitedError::TextTooLong),
             name: 0,
         };
     }

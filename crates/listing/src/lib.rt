@@ -21,7 +21,7 @@ fn list_text(
 ) -> Result<(XbmHeaderData, u64), Refusal>
     ensures { Answered limits.text limits.cells text.now name.old cells.old name.new cells.new result }
 {
-    let header = read_within(text, name, cells, limits).image?;
+    let header = read_within(text, name, cells, limits).answer?;
     let mask = Mask::first_of(header.width, header.height, cells);
     Ok((header, mask.ink()))
 }

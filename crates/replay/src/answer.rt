@@ -62,7 +62,7 @@ pub fn answer(text: &[u8], name: &mut [u8], pixels: &mut [u8]) -> Told {
     fill(name);
     fill(pixels);
     let read = read_image(text, name, pixels);
-    let told = match read.image {
+    let told = match read.answer {
         Ok(data) => accepted(data),
         Err(error) => refused(error.into()),
     };

@@ -32,7 +32,7 @@ fn rewrite_text(
     ensures filled { cells.new ≡ (within limits.text limits.cells text.now name.old cells.old).pixels }
 {
     let read = read_within(text, name, cells, limits);
-    let header = read.image?;
+    let header = read.answer?;
     let mask = Mask::first_of(header.width, header.height, cells);
     Ok(write_xbm(&name[..read.name], mask, header.hotspot, out)?)
 }

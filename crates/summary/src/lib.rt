@@ -38,14 +38,14 @@ fn answer_told(header: Result<(XbmHeaderData, TextLocation), Refusal>, name: usi
 
 // No `From` here and below: both types are other crates' (the orphan rule), and in `image` it would make the reader know what C is told.
 pub fn header_told(read: HeaderAnswer) -> Summary
-    ensures { result ≡ of_header (told_header [] read.header) read.name }
+    ensures { result ≡ of_header (told_header [] read.answer) read.name }
 {
-    answer_told(read.header.map_err(Refusal::from), read.name)
+    answer_told(read.answer.map_err(Refusal::from), read.name)
 }
 
 pub fn image_told(read: ImageAnswer<ImageError<TextLocation>>) -> Summary
-    ensures { result ≡ of_image (told_image [] read.image) read.name }
+    ensures { result ≡ of_image (told_image [] read.answer) read.name }
 {
-    let image = read.image.map(|d| (d, no_place()));
+    let image = read.answer.map(|d| (d, no_place()));
     answer_told(image.map_err(Refusal::from), read.name)
 }
