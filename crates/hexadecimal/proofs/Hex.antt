@@ -56,6 +56,8 @@ module _ (part : XbmPart) {r₀ r₁ : TextReader} {m o : Value ℕ} {z : Answer
       go None w = rw (t, w) (one-refusal part hexv e h (reader-moved r₀ e h l k) (hex-none b v w))
       go (Some d) w = rw (t, w) (one-value part hexv e h (reader-moved r₀ e h l k) (hex-is b v w))
 
+pub ruleset digit_steps = (digit_lacks, digit_taken)
+
 -- a digit that was read is below 16
 digit-small : (c : ℕ) {r₀ r₁ : TextReader} {m : Answer ℕ XbmPart} {v : ℕ} → Reads (hex_digit c) r₀ r₁ m → m ≡ Ok v → v < 16
 unfolding hex_digit one hexv
@@ -70,8 +72,8 @@ digit-small c {r₀} {r₁} {m} {v} e h = go (rest r₀.text.now r₀.location) 
     go (b ∷ l) k = fin b (ltb (hex_of b) 16) refl (after b r₀.location) k
 
 module _ (c : ℕ) {r₀ r₁ : TextReader} {m : Answer ℕ XbmPart} {v : ℕ} (e : Reads (hex_digit c) r₀ r₁ m) (h : m ≡ Ok v) where
-  pub hi_fits : Fits w8 (v * 16)
-  hi_fits = let a = digit-small c e h in omega arith
+  pub hi-fits : Fits w8 (v * 16)
+  hi-fits = let a = digit-small c e h in omega arith
 
   pub byte_fits : {r₂ r₃ : TextReader} {n : Answer ℕ XbmPart} {w : ℕ} → Reads (hex_digit c) r₂ r₃ n → n ≡ Ok w → Fits w8 (v * 16 + w)
   byte_fits f k = let a = digit-small c e h in let b = digit-small c f k in omega arith
@@ -81,6 +83,8 @@ pub byte_then : (c : ℕ) (t : List ℕ) (i : TextLocation) → hex_byte c t i
     ≡ then (hex_start c t i) (λ a e. then (hex_digit c t e) (λ h e. then (hex_digit c t e) (λ l e. ok (h * 16 + l) e)))
 unfolding hex_unit hex_digits ◌>>=◌ give
 byte_then c t i = refl
+
+pub ruleset byte_steps = (byte_then, hi-fits, byte_fits)
 
 -- the table's rule, at each entry
 values-at : (k n b : ℕ) → b < n → get_or (values_from k n) b 0 ≡ hex_of (k + b)
