@@ -22,7 +22,7 @@ impl From<io::Error> for Malformed {
     }
 }
 
-// The count of cases that a list begins with, if it begins as one. What is missing of the count's bytes is 0.
+// The count of cases that a list begins with, if it begins as one. Of a count that is cut the missing bytes are 0.
 fn read_count<R: Read>(list: &mut R) -> Option<u64> {
     let mut magic = [0u8; 8];
     list.read_exact(&mut magic).ok()?;

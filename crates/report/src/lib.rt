@@ -9,7 +9,7 @@ ghost use Rattle.report.specs.Report.{flag_of, coordinates, hot_given, report_of
 use text::TextLocation;
 
 // What a call of the C interface tells, its number 0 if it accepts: zeros and no hotspot where it tells nothing.
-// Numbers, and no Result or Option around them: so the C interface has them, and as the name no more than its length.
+// Numbers, no Result or Option around them, and of the name its length alone: so the C interface (include/xbm.h) has them.
 #[derive(Clone, Copy, Debug, PartialEq, Eq)]
 pub struct Summary {
     pub number: u32,
