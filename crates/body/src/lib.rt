@@ -24,7 +24,8 @@ fn read_separator(r: &mut TextReader<'_>) -> Result<(), XbmPart>
     read_byte_of(r, |b| b == b',', XbmPart::Data)
 }
 
-// One data byte. Before the first of a picture stands no separator; a closure in place of `first` would be no plainer.
+// One data byte. Before the first of a picture stands no separator. A closure in place of `first` would be no plainer, and two functions
+// would have each of the three calls, which have the flag, choose by it: the choice would stand three times.
 #[tactic(auto, using(lexical::proofs::Laws::bind_then, crate::proofs::Laws::item_is))]
 pub fn read_data_byte(r: &mut TextReader<'_>, first: bool) -> Result<u8, XbmPart>
     ensures { Reads (item first) r.old r.new result }

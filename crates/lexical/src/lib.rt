@@ -1,5 +1,5 @@
 // The lexical readers: each takes bytes off a text reader, and answers what it read, or the part whose rule is broken where the reader
-// then stands. As in the original each is lent the reader and told the part.
+// then stands. Reader and part are two parameters: one reader is told many parts, so a struct of both would be made anew for each call.
 #![tactic(auto)]
 
 ghost use Rattle.std.specs.Prelude.{◌≡◌, ℕ, Bool, Ok};
@@ -84,7 +84,7 @@ pub fn read_optional_whitespace(r: &mut TextReader<'_>)
     skip_while(r, is_loose);
 }
 
-// Past the blanks, also none.
+// Past spaces and tabs, also none.
 fn skip_blanks(r: &mut TextReader<'_>)
     ensures { Reads (skip is_blank) r.old r.new (Ok tt) }
 {

@@ -95,16 +95,6 @@ fn past_line(place: TextLocation, n: u64) -> TextLocation
     at_line_start(end.wrapping_add(1), place.line.0.wrapping_add(1))
 }
 
-// The place past one byte, which is b.
-fn past_byte(place: TextLocation, b: u8) -> TextLocation
-    ensures { result ≡ past_byte place b }
-{
-    if b == b'\n' {
-        return past_line(place, 0);
-    }
-    along(place, 1)
-}
-
 // A lent text, and the place of its next byte.
 #[repr(C)]
 #[derive(Clone, Copy, Debug, PartialEq, Eq)]
@@ -198,11 +188,15 @@ impl<'a> TextReader<'a> {
         &self.text[from..end]
     }
 
-    // Past the byte b, which was looked at.
+    // Past the byte b, which was looked at. With the place picked by a function of its own a data byte takes a fifth more instructions.
     pub fn pass(&mut self, b: u8)
         ensures { self.new ≡ passed b self.old }
     {
-        self.location = past_byte(self.location, b);
+        if b == b'\n' {
+            self.pass_line(0);
+        } else {
+            self.pass_along(1);
+        }
     }
 
     // Past n bytes of a line.
