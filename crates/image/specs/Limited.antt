@@ -1,13 +1,13 @@
 -- The reading of pixels within limits on the text's bytes and on the cells: the first limit, the header, the second,
 -- then the picture, into the first width times height cells lent.
-use Rattle.std.specs.Prelude.{◌≡◌, ℕ, ◌*◌, ◌≤◌, ◌<◌, true, List, [], ◌++◌, length, take, drop, ltb, None, Result as Answer, Ok, Err}
+use Rattle.std.specs.Prelude.{◌≡◌, ℕ, ◌*◌, ◌≤◌, ◌<◌, true, List, [], ◌++◌, length, take, drop, ltb, None, Result as Answer, Err}
 use Rattle.text.specs.declared.TextLocation.{TextLocation}
 use Rattle.text.specs.Place.{pick, start}
 use Rattle.text.specs.Reader.{Result, ok, stop, bad}
-use Rattle.text.specs.Outcome.{Outcome, accepted, refused, unplaced, outcome}
+use Rattle.text.specs.Outcome.{Outcome, refused, unplaced, outcome}
 use Rattle.lexical.specs.Token.{overlay}
 use Rattle.error.specs.declared.Refusal.{Refusal}
-use Rattle.error.specs.Error.{image_refusal, told_refusal}
+use Rattle.error.specs.Error.{image_refusal}
 use Rattle.symbol.specs.Symbol.{stored}
 use Rattle.header.specs.declared.XbmHeaderData.{XbmHeaderData}
 use Rattle.header.specs.Header.{Head, header}
@@ -15,7 +15,7 @@ use Rattle.header.specs.Answer.{head_of}
 use Rattle.body.specs.Data.{log_of}
 use Rattle.cells.specs.Cells.{painted, count}
 use Rattle.rows.specs.Rows.{whole}
-use Rattle.image.specs.Reading.{Reading, reading}
+use Rattle.image.specs.Reading.{Reading, reading, told_picture, Answers}
 use Rattle.header.specs.declared.NamedAnswer.{NamedAnswer}
 use Rattle.image.specs.declared.LimitedError.{LimitedError}
 use Rattle.image.specs.declared.LimitedError.TheVariants.{TextTooLong, PictureTooLarge, Image}
@@ -59,21 +59,14 @@ limited_refusal PictureTooLarge = record { number = 42; place = None }
 limited_refusal (Image e) = image_refusal e
 
 abbrev pub told_limited : List ℕ → Answer XbmHeaderData LimitedError → Outcome Head
-told_limited name (Ok d) = accepted (head_of name d)
-told_limited name (Err e) = told_refusal (limited_refusal e)
+told_limited name r = told_picture limited_refusal name r
 
-abbrev pub limited_reading : NamedAnswer XbmHeaderData LimitedError → List ℕ → List ℕ → Reading
-limited_reading r name cells = record { answer = told_limited (take r.name name) r.answer; name = take r.name name; symbol = name; pixels = cells }
+-- reading within the limit on the cells, and within both limits
+abbrev pub Limited : ℕ → List ℕ → List ℕ → List ℕ → List ℕ → List ℕ → NamedAnswer XbmHeaderData LimitedError → Type 0
+Limited limit text name cells name' cells' r = Answers limited_refusal (limited limit text name cells) name' cells' r
 
--- reading within a limit: what it answers and leaves, and the name is a part of the name buffer
-pub record Limited (limit : ℕ) (text name cells name' cells' : List ℕ) (r : NamedAnswer XbmHeaderData LimitedError) : Type 0 where
-  pub all : limited_reading r name' cells' ≡ limited limit text name cells
-  pub fits : r.name ≤ length name'
-
--- the same within both limits
-pub record Within (bytes most : ℕ) (text name cells name' cells' : List ℕ) (r : NamedAnswer XbmHeaderData LimitedError) : Type 0 where
-  pub all : limited_reading r name' cells' ≡ within bytes most text name cells
-  pub fits : r.name ≤ length name'
+abbrev pub Within : ℕ → ℕ → List ℕ → List ℕ → List ℕ → List ℕ → List ℕ → NamedAnswer XbmHeaderData LimitedError → Type 0
+Within bytes most text name cells name' cells' r = Answers limited_refusal (within bytes most text name cells) name' cells' r
 
 -- reading what follows an accepted header d, from place p on: nothing above the limit, else the picture into the first n cells
 pub record Bounded (limit : ℕ) (d : XbmHeaderData) (t : List ℕ) (p : TextLocation) (lent later : List ℕ) (r : Answer XbmHeaderData LimitedError) : Type 0 where

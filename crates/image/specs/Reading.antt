@@ -8,6 +8,7 @@ use Rattle.text.specs.Leaf.{give}
 use Rattle.text.specs.Outcome.{Outcome, accepted, outcome}
 use Rattle.lexical.specs.Token.{overlay}
 use Rattle.error.specs.declared.ImageError.{ImageError}
+use Rattle.error.specs.declared.Refusal.{Refusal}
 use Rattle.error.specs.Error.{image_refusal, told_refusal}
 use Rattle.symbol.specs.Symbol.{stored}
 use Rattle.header.specs.declared.XbmHeaderData.{XbmHeaderData}
@@ -55,18 +56,25 @@ reading text name pixels = record {
 
 -- ---- what the code answers
 
+abbrev pub told_picture : {E : Type 0} → (E → Refusal) → List ℕ → Answer XbmHeaderData E → Outcome Head
+told_picture refusal name (Ok d) = accepted (head_of name d)
+told_picture refusal name (Err e) = told_refusal (refusal e)
+
 abbrev pub told_image : List ℕ → Answer XbmHeaderData (ImageError TextLocation) → Outcome Head
-told_image name (Ok d) = accepted (head_of name d)
-told_image name (Err e) = told_refusal (image_refusal e)
+told_image name r = told_picture image_refusal name r
 
 -- an answer of the code and the buffers after it, as a reading
-abbrev pub told_reading : NamedAnswer XbmHeaderData (ImageError TextLocation) → List ℕ → List ℕ → Reading
-told_reading r name pixels = record { answer = told_image (take r.name name) r.answer; name = take r.name name; symbol = name; pixels = pixels }
+abbrev pub told_reading : {E : Type 0} → (E → Refusal) → NamedAnswer XbmHeaderData E → List ℕ → List ℕ → Reading
+told_reading refusal r name pixels = record { answer = told_picture refusal (take r.name name) r.answer; name = take r.name name; symbol = name; pixels = pixels }
 
--- reading the pixels of a text: what it answers and leaves is the reading, and the name is a part of the name buffer
-pub record Imaged (text name pixels name' pixels' : List ℕ) (r : NamedAnswer XbmHeaderData (ImageError TextLocation)) : Type 0 where
-  pub all : told_reading r name' pixels' ≡ reading text name pixels
+-- what is answered and left is the reading m, and the name is a part of the name buffer
+pub record Answers {E : Type 0} (refusal : E → Refusal) (m : Reading) (name' pixels' : List ℕ) (r : NamedAnswer XbmHeaderData E) : Type 0 where
+  pub all : told_reading refusal r name' pixels' ≡ m
   pub fits : r.name ≤ length name'
+
+-- reading the pixels of a text
+abbrev pub Imaged : List ℕ → List ℕ → List ℕ → List ℕ → List ℕ → NamedAnswer XbmHeaderData (ImageError TextLocation) → Type 0
+Imaged text name pixels name' pixels' r = Answers image_refusal (reading text name pixels) name' pixels' r
 
 -- reading what follows an accepted header d, from place p on
 pub record Pictured (d : XbmHeaderData) (t : List ℕ) (p : TextLocation) (lent later : List ℕ) (r : Answer XbmHeaderData (ImageError TextLocation)) : Type 0 where
