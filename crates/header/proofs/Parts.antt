@@ -5,7 +5,7 @@ use mathlib.Core.Path.{◌≡◌, refl, ap, fun_ext}
 use mathlib.Core.Bool.{Bool, true, false}
 use mathlib.Core.List.{List, [], ◌∷◌}
 use Rattle.text.specs.declared.TextLocation.{TextLocation}
-use Rattle.text.specs.Place.{rest, after}
+use Rattle.text.specs.Place.{rest}
 use Rattle.text.specs.Reader.{Result, ok, stop, bad, Reader, then, ◌>>=◌}
 use Rattle.text.specs.Leaf.{give, choose, fork_of, fork}
 use Rattle.lexical.proofs.Laws.{bind_then}
@@ -42,7 +42,7 @@ fork_bind c x y p q f = fun_ext (λ t. fun_ext (λ i. go t i (rest t i)))
   where
     go : (t : List ℕ) (i : TextLocation) (l : List ℕ) → then (fork_of c x p y q l t i) (λ a n. f a t n) ≡ fork_of c x (p >>= f) y (q >>= f) l t i
     go t i [] = refl
-    go t i (b ∷ l) = choose-bind c (after b i) p q f (eqb b x) (eqb b y) t i
+    go t i (b ∷ l) = choose-bind c _ p q f (eqb b x) (eqb b y) t i
 
 -- the width's symbol and what follows it
 pub parts : (limit : ℕ) (t : List ℕ) (i : TextLocation) → header limit t i ≡ (width_symbol limit >>= λ name. sides_of name) t i
