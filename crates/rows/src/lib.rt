@@ -88,9 +88,9 @@ pub fn read_rows(
     }
     if rows < h {
         read_data_byte(r, first)?;
-        return Err(ImageError::DimensionMismatch);
+    } else {
+        read_trailer(r)?;
     }
-    read_trailer(r)?;
     if rows == h {
         Ok(())
     } else {
