@@ -1,62 +1,24 @@
 -- What a step of the code says of hex bytes.
 use mir.Syntax.{w8}
 use mir.Val.{Fits}
-use Prim.Native.Nat.{ℕ, zero, suc, ◌+◌, ◌*◌, ◌^◌, ◌≤◌, ◌<◌}
+use Prim.Native.Nat.{ℕ, zero, suc, ◌+◌, ◌*◌, ◌≤◌, ◌<◌}
 use native.Mathlib.Omega.{arith}
 use borrow.Author.Tests.{lt-ltb, le-ltb, ltb-true}
 use mathlib.Core.Path.{◌≡◌, refl, ap, ◌∙◌}
 use mathlib.Core.Option.{none, some}
 use mathlib.Core.List.{List, [], ◌∷◌}
 use mathlib.Core.Bool.{Bool, true, false}
-use lib.ListN.{length, get_or}
+use lib.ListN.{get_or}
 use lib.Dec.{ltb}
-use Rattle.std.specs.Prelude.{Option as Value, Some, None, ok_or, Result as Answer, Ok}
+use Rattle.std.specs.Prelude.{Some, None, Result as Answer, Ok}
 use Rattle.text.specs.declared.TextLocation.{TextLocation}
 use Rattle.text.specs.declared.TextReader.{TextReader}
 use Rattle.text.specs.Place.{pick, rest, after}
-use Rattle.text.specs.TextReader.{next_of, moved_on}
 use Rattle.text.specs.Reader.{ok, then, ◌>>=◌}
 use Rattle.text.specs.Leaf.{give, one, first, judge}
-use Rattle.text.proofs.Laws.{reader-moved}
 use Rattle.lexical.specs.declared.XbmPart.{XbmPart}
-use Rattle.lexical.specs.Lexical.{number}
 use Rattle.lexical.specs.Reads.{Reads}
-use Rattle.lexical.proofs.Laws.{one-value, one-refusal, one-lacks, unmoved}
 use Rattle.hexadecimal.specs.Hex.{hex_of, value_of, values_from, hex_table, hexv, hex_digit, hex_start, hex_digits, hex_unit, hex_byte}
-
--- what `hex_value` answers
-module _ (b : ℕ) {r : Value ℕ} (e : r ≡ value_of b) where
-  pub hex-is : {v : ℕ} → r ≡ Some v → hexv b ≡ some v
-  unfolding hexv
-  hex-is {v} m = go (ltb (hex_of b) 16) e
-    where
-      go : (w : Bool) → r ≡ pick w (Some (hex_of b)) None → pick w (some (hex_of b)) none ≡ some v
-      go true u = let x : hex_of b ≡ v = cc in rw x refl
-      go false u = cc
-
-  pub hex-none : r ≡ None → hexv b ≡ none
-  unfolding hexv
-  hex-none m = go (ltb (hex_of b) 16) e
-    where
-      go : (w : Bool) → r ≡ pick w (Some (hex_of b)) None → pick w (some (hex_of b)) none ≡ none
-      go true u = cc
-      go false u = refl
-
--- a digit, taken
-module _ (part : XbmPart) {r₀ r₁ : TextReader} {m o : Value ℕ} {z : Answer ℕ XbmPart} (e : m ≡ next_of r₀) (l : length r₀.text.now * 1 < 2 ^ 63) (k : r₁ ≡ moved_on r₀) (t : z ≡ ok_or o part) where
-  pub digit_lacks : m ≡ None → o ≡ None → Reads (hex_digit (number part)) r₀ r₁ z
-  unfolding hex_digit
-  digit_lacks h v = rw (t, v) (one-lacks part hexv e h (unmoved r₀ e k h))
-
-  pub digit_taken : {b : ℕ} → m ≡ Some b → o ≡ value_of b → Reads (hex_digit (number part)) r₀ r₁ z
-  unfolding hex_digit
-  digit_taken {b} h v = go o refl
-    where
-      go : (w : Value ℕ) → o ≡ w → Reads (one (number part) hexv) r₀ r₁ z
-      go None w = rw (t, w) (one-refusal part hexv e h (reader-moved r₀ e h l k) (hex-none b v w))
-      go (Some d) w = rw (t, w) (one-value part hexv e h (reader-moved r₀ e h l k) (hex-is b v w))
-
-pub ruleset digit_steps = (digit_lacks, digit_taken)
 
 -- a digit that was read is below 16
 digit-small : (c : ℕ) {r₀ r₁ : TextReader} {m : Answer ℕ XbmPart} {v : ℕ} → Reads (hex_digit c) r₀ r₁ m → m ≡ Ok v → v < 16

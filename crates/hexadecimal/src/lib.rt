@@ -54,7 +54,7 @@ impl HexTable {
 }
 
 // Read a single hex digit, either upper or lower case.
-#[tactic(auto, using(crate::proofs::Hex::digit_steps))]
+#[tactic(auto, unfolding(crate::specs::Hex::hex_digit, crate::specs::Hex::hexv, text::specs::Leaf::one))]
 pub fn read_hex_digit(r: &mut TextReader<'_>, part: XbmPart) -> Result<u8, XbmPart>
     ensures { Reads (hex_digit (number part)) r.old r.new result }
 {

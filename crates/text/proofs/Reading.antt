@@ -1,7 +1,7 @@
 -- What a step of the code says of a reader's definition. Each law's premises are what a call ensures and what a `match` or a test tells,
 -- and its conclusion is `result ≡ definition`, so `search` puts them together.
 use Rattle.std.proofs.Common.{◌≡◌, ℕ, List}
-use mathlib.Core.Option.{Option, none, some}
+use mathlib.Core.Option.{Option, some}
 use Rattle.std.specs.Prelude.{Option as Taken, Some, None}
 use Rattle.text.specs.declared.TextLocation.{TextLocation}
 use Rattle.text.specs.Place.{after, peeked_at}
@@ -11,14 +11,6 @@ use Rattle.text.proofs.Laws.{next-rest, end_rest}
 
 -- a byte
 module _ {A : Type 0} (c : ℕ) (g : ℕ → Option A) (t : List ℕ) (i : TextLocation) {r : Taken ℕ} (e : r ≡ peeked_at t i) where
-  pub one_ok : {b : ℕ} {a : A} → r ≡ Some b → g b ≡ some a → ok a (after b i) ≡ one c g t i
-  unfolding one
-  one_ok m h = rw (next-rest t i e m, h)
-
-  pub one-stop : {b : ℕ} → r ≡ Some b → g b ≡ none → stop c (after b i) ≡ one c g t i
-  unfolding one
-  one-stop m h = rw (next-rest t i e m, h)
-
   pub one_end : r ≡ None → stop c i ≡ one c g t i
   unfolding one
   one_end m = rw (end_rest t i e m)
