@@ -37,6 +37,7 @@ fn put_answer(out: &mut [u8], answer: Result<(XbmHeaderData, u64), Refusal>) -> 
 }
 
 // Lists a text, within limits: what is printed goes to the start of `out`, and the answer is its length (see `print::Buffer`).
+// Name and cells stay two parameters, here and above: buffers of two owners, and a struct of both would be made anew in each call.
 pub fn list(text: &[u8], name: &mut [u8], cells: &mut [u8], out: &mut [u8], limits: Limits) -> usize
     ensures { Lists limits.text limits.cells text.now name.old cells.old out.old
         name.new cells.new out.new result }
