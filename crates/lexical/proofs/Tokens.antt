@@ -57,13 +57,13 @@ module _ (ends : ℕ → Bool) (c lim : ℕ) where
 
 -- the bytes since a place, with one byte more
 module _ (t : List ℕ) (i : TextLocation) {b : ℕ} (h : peeked_at t i ≡ Some b) (s : length t * 1 < 2 ^ 63) where
-  pub byte-more : (peeked_at t i ≡ peeked_at t i) × (byte_of (past_byte i b) ≡ byte_of i + 1)
+  pub byte-more : byte_of (past_byte i b) ≡ byte_of i + 1
   unfolding after
-  byte-more = (refl, ap byte_of (next_past t i refl h s))
+  byte-more = ap byte_of (next_past t i refl h s)
 
   pub since-more : (p : ℕ) → p ≤ byte_of i → take (byte_of (past_byte i b) - p) (drop p t) ≡ take (byte_of i - p) (drop p t) ++ b ∷ []
   since-more p l =
       let a = next-at t i refl h in
-      rw (byte-more.1, ← a.1) (between_more t p (byte_of i) 0 l a.0)
+      rw (byte-more, ← a.1) (between_more t p (byte_of i) 0 l a.0)
 
 pub ruleset taking_laws = (token-begins, token-stops, token-ends, token-full, token-more, byte-more, since-more, remains-less)
