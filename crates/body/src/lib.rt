@@ -81,8 +81,8 @@ pub fn read_trailer(r: &mut TextReader<'_>) -> Result<(), XbmPart>
     read_end(r)
 }
 
-// How many data bytes a picture has: rows start at whole bytes. The sides are two numbers: a struct of them would be made and taken
-// apart at once.
+// How many data bytes a picture has: rows start at whole bytes. The sides are two numbers: with a struct of them the
+// clause would name both of its fields.
 pub fn data_size(width: u32, height: u32) -> u64
     ensures { result ≡ bytes_of width height }
 {

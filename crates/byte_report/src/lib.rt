@@ -8,7 +8,7 @@ ghost use Rattle.byte_report.specs.Next.{reported, next_number, next_report};
 use decoder::{StreamError, XbmStreamDecoder};
 use text::{TextLocation, no_place};
 
-// A report of a place and a data byte.
+// A report of a place and a data byte. Not by `report::write_report`: this crate would then need the header's.
 fn report_of(place: TextLocation, data: u64) -> [u64; 10]
     ensures { result ≡ reported place «data» }
 {
@@ -21,7 +21,7 @@ fn report_of(place: TextLocation, data: u64) -> [u64; 10]
     [byte.0, line.0, column.0, 0, 0, 0, 0, data, start.0, 0]
 }
 
-// An answer and the decoder after it, as numbers, since C takes no others: 256, which no byte is, tells that none is left, and 9 a
+// An answer and the decoder after it, as numbers, since C takes nothing else: 256, which no byte is, tells that none is left, and 9 a
 // foreign decoder.
 pub fn tell(
     answer: Result<Option<u8>, StreamError>,

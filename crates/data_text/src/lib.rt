@@ -21,9 +21,9 @@ fn bit_at(cells: &[u8], c: usize) -> u8
     }
 }
 
-// n cells from `start` on as the bits of a byte, the least first. By an index from the last cell down: of cells skipped, taken and folded
-// in reverse the proof did not close. `start` and n stand beside the cells, since there may be fewer: a slice in their place would be
-// `&cells[start.min(cells.len())..(start + n).min(cells.len())]`, which is no plainer.
+// n cells from `start` on as the bits of a byte, the least first. By an index from the last cell down: with
+// `iter().skip(start).take(n).rev().fold(..)` the proof did not close. `start` and n stand beside the cells, since there may be fewer: a
+// slice in their place would be `&cells[start.min(cells.len())..(start + n).min(cells.len())]`, which is no plainer.
 #[tactic(auto, using(crate::proofs::Packing::pack_laws))]
 fn pack(cells: &[u8], start: usize, n: usize) -> u8
     requires { (n ≤ 8) × (start + n < 2 ^ 64) }
@@ -48,8 +48,9 @@ fn packed_byte(mask: Mask<'_>, k: usize) -> u8
     pack(mask.cells, k / row * width + u, (width - u).min(8))
 }
 
-// A hex digit in lower case. By hand: of what std's `{:x}` writes to a lent buffer its clauses say nothing where the write fails, and with the
-// crate `hex` `put_hex` would be no plainer: `let _ = hex::encode_to_slice([b], &mut text[2..])` fills a text of its own and drops an answer.
+// A hex digit in lower case. By hand: of what std's `{:x}` writes to a lent buffer its clauses say nothing where the write fails, and with
+// the crate `hex` `put_hex` would be no plainer: `let _ = hex::encode_to_slice([b], &mut text[2..])` fills a text of its own and drops an
+// answer.
 fn hex_digit(d: u8) -> u8
     requires { d < 16 }
     ensures { result ≡ hex_text d }
@@ -77,8 +78,8 @@ fn put_lead(out: &mut Buffer<'_>, k: usize)
     }
 }
 
-// The data bytes of a mask, from the newline after the brace up to the last digit. By their numbers, which end the lines: `chunks` of the cells
-// would be no plainer, since they leave out the bytes, all 0, of a mask with too few cells, and there are none of a width of 0.
+// The data bytes of a mask, from the newline after the brace up to the last digit. By its number, which says where a line ends.
+// `chunks` of the cells would be no plainer: they leave out the bytes, all 0, of a mask with too few cells, and there are none of 0 cells.
 pub fn put_data(out: &mut Buffer<'_>, mask: Mask<'_>)
     ensures { Puts (data_text 0 (packed mask.entry.width mask.entry.height mask.entry.cells.now)) out.old out.new }
 {

@@ -1,4 +1,5 @@
-// The stream decoder: one data byte a call, and after the last the trailer. The text stands apart.
+// The stream decoder: one data byte a call, and after the last the trailer.
+// The text stands apart: C keeps the decoder between calls, and lends the text anew with each.
 #![tactic(auto)]
 
 ghost use Rattle.std.specs.Prelude.{◌≡◌};
@@ -20,7 +21,7 @@ pub struct XbmStreamDecoder {
 }
 
 // What refuses a call: a rule that is broken where the decoder then stands, or a decoder with numbers that no header of this text gave.
-// It is no `ImageError<()>`: the second case here is 9, there 31, and with one type for both each would have the case of the other.
+// It is no `ImageError<()>`: the second case here is told as 9, there as 31; with one type each would have the other's case.
 #[derive(Clone, Copy, Debug, PartialEq, Eq)]
 pub enum StreamError {
     Parse(XbmPart),
@@ -89,7 +90,7 @@ pub fn next_byte(text: &[u8], decoder: &mut XbmStreamDecoder) -> Result<Option<u
     Ok(None)
 }
 
-// The same by value: the next byte, and the decoder after it.
+// The same by value, as document 01 has it: the next byte, and the decoder after it.
 pub fn step(text: &[u8], d: XbmStreamDecoder) -> Stepped
     ensures { told_step result ≡ step_of text.now d }
 {

@@ -25,7 +25,7 @@ pub struct XbmHeaderData {
 #[derive(Clone, Copy, Debug, PartialEq, Eq)]
 pub struct NamedAnswer<T, E> {
     pub answer: Result<T, E>,
-    // A number, and 0 beside a refusal, since the C interface hands it out so.
+    // A length, and 0 beside a refusal: so the C interface has it; a part of the text would keep the text lent while the answer is kept.
     pub name: usize,
 }
 

@@ -1,10 +1,10 @@
 // A mask's header as text, line after line, put into a lent buffer.
+// No Display: of what `write!` leaves in a lent buffer that is too short std says nothing (see `print::Buffer`).
 #![tactic(auto)]
 
 ghost use Rattle.std.specs.Prelude.{◌≡◌};
 ghost use Rattle.header.specs.Answer.{hot_of};
-ghost use Rattle.print.specs.Output.{output, puts};
-ghost use Rattle.print.specs.Puts.{Puts};
+ghost use Rattle.print.specs.Puts.{Puts, PutsAll};
 ghost use Rattle.header_text.specs.HeaderText.{define_text, spot_text, array_text, head_text};
 
 use header::XbmHeaderData;
@@ -44,7 +44,7 @@ fn put_array(out: &mut Buffer<'_>, name: &[u8])
 
 // All up to the brace, from the buffer's start. The answer is its length (see `print::Buffer`).
 pub fn put_header(out: &mut [u8], name: &[u8], header: XbmHeaderData) -> usize
-    ensures { output out.new result ≡ puts (head_text name.now header.width header.height (hot_of header.hotspot)) (output out.old 0) }
+    ensures { PutsAll (head_text name.now header.width header.height (hot_of header.hotspot)) out.old out.new result }
 {
     let mut out = Buffer::new(out);
     put_define(&mut out, name, b"_width", header.width);

@@ -12,7 +12,7 @@ use lines::read_define_line;
 use text::TextReader;
 
 // A define line with a coordinate.
-// Name, ending and part stay three: each call names them once, so a struct of them would be made and taken apart at once.
+// Name, ending and part stay three: a struct of them would be made at each call, and its fields read in `lines` alone.
 #[tactic(auto, using(lexical::proofs::Laws::bind_then), unfolding(text::specs::Leaf::need, crate::specs::Hotspot::coordinate_line))]
 fn read_coordinate_line(
     r: &mut TextReader<'_>,

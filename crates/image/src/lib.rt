@@ -70,7 +70,7 @@ fn read_picture(
 }
 
 // The pixels of a text, its header first: as `XbmDecoder::new` and then `read_image`. Here and below name and cells stay two parameters:
-// they are buffers of two owners, lent apart, and a struct of both would be made anew in each call.
+// of a struct of both each clause would have to say besides that it still holds the same buffers.
 #[tactic(auto, using(std::proofs::lemmas::Grind::common_steps, crate::proofs::Whole::picture_then), unfolding(crate::specs::Reading::reading))]
 pub fn read_image(
     text: &[u8],
@@ -108,7 +108,7 @@ fn read_bounded(
 }
 
 // The pixels of a text, its header first, into the first width times height of the cells lent; above the limit on these only the header
-// is read. The arms stand here again: of a buffer that a closure borrowed nothing is known, and one function for both has a longer
+// is read. The same two arms as in `read_image`: of a buffer that a closure borrowed nothing is known, and one function for both has a longer
 // contract.
 #[tactic(auto, using(std::proofs::lemmas::Grind::common_steps, crate::proofs::Limit::headed_read), unfolding(crate::specs::Limited::limited, crate::specs::Limited::after_header))]
 fn read_limited(

@@ -4,7 +4,8 @@
 ghost use Rattle.std.specs.Prelude.{◌≡◌, ◌*◌, min, take};
 ghost use Rattle.ink.specs.Ink.{ink_of};
 
-// How many cells a picture has. Its sides are two numbers, here and below: a struct of them would be made and taken apart at once.
+// How many cells a picture has. Its sides are two numbers, here and below: the definitions take two,
+// so with a struct each clause would name both of its fields.
 pub fn cell_count(width: u32, height: u32) -> u64
     ensures { result ≡ width * height }
 {

@@ -9,7 +9,7 @@ ghost use Rattle.input.specs.Input.{Brings};
 
 use std::io::{self, ErrorKind, Read};
 
-// One read, tried again where a signal interrupts it, as std does.
+// One read, tried again where a signal interrupts it, as std does. Bounded, so that it ends whatever the reader does.
 fn read_once<R: Read>(reader: &mut R, room: &mut [u8]) -> io::Result<usize>
     ensures within { ReadsAtMost result room.new }
     ensures bytes { ReadConsumes (R.remaining reader.old) (R.remaining reader.new) result room.new }

@@ -18,6 +18,7 @@ pub enum Fault {
 const TOO_LARGE: u64 = 1 << 32;
 
 // The value of a run of digits. All bytes are looked at: one that is no digit is told before a value that is too large.
+// By hand: std's `parse` takes a `+` too, and its clause leaves open which of two faults is told.
 #[tactic(auto, using(crate::proofs::Laws::digit_read), unfolding(crate::specs::Decimal::digits_from, crate::specs::Decimal::is_digit))]
 fn read_digits(data: &[u8]) -> Result<u32, Fault>
     ensures { result ≡ digits_of «data».now }

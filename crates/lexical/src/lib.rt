@@ -1,5 +1,5 @@
 // The lexical readers: each takes bytes off a text reader, and answers what it read, or the part whose rule is broken where the reader
-// then stands. Reader and part are two parameters: one reader is told many parts, so a struct of both would be made anew for each call.
+// then stands. Reader and part are two parameters: the part changes while the reader goes on, so a struct of both would be no plainer.
 #![tactic(auto)]
 
 ghost use Rattle.std.specs.Prelude.{◌≡◌, ℕ, Bool, Ok};

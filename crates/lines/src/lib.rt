@@ -26,7 +26,7 @@ pub fn read_value<'a>(r: &mut TextReader<'a>, part: XbmPart) -> Result<&'a [u8],
 }
 
 // `#define`, a gap, and the symbol made of the name and an ending.
-// Name, ending and part stay three: each call of `read_define_line` names them once, so a struct would be made and taken apart at once.
+// Name, ending and part stay three: a struct of them would be made at each call, and its fields read here alone.
 #[tactic(auto, using(lexical::proofs::Laws::bind_then), unfolding(crate::specs::Lines::symbol))]
 fn read_symbol(
     r: &mut TextReader<'_>,

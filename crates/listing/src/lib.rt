@@ -2,7 +2,7 @@
 #![tactic(auto)]
 
 ghost use Rattle.std.specs.Prelude.{◌≡◌};
-ghost use Rattle.print.specs.Output.{output, puts};
+ghost use Rattle.print.specs.Puts.{PutsAll};
 ghost use Rattle.listing.specs.Listing.{answer_text, Answered, Lists};
 
 use error::Refusal;
@@ -28,7 +28,7 @@ fn list_text(
 
 // The printed text of an answer; handed back is its length (see `print::Buffer`).
 fn put_answer(out: &mut [u8], answer: Result<(XbmHeaderData, u64), Refusal>) -> usize
-    ensures { output out.new result ≡ puts (answer_text answer) (output out.old 0) }
+    ensures { PutsAll (answer_text answer) out.old out.new result }
 {
     match answer {
         Ok((header, ink)) => put_accepted(out, header, ink),
@@ -37,7 +37,7 @@ fn put_answer(out: &mut [u8], answer: Result<(XbmHeaderData, u64), Refusal>) -> 
 }
 
 // Lists a text, within limits: what is printed goes to the start of `out`, and the answer is its length (see `print::Buffer`).
-// Name and cells stay two parameters, here and above: buffers of two owners, and a struct of both would be made anew in each call.
+// Name and cells stay two parameters, here and above: of a struct of both each clause would have to say that it still holds the same buffers.
 pub fn list(text: &[u8], name: &mut [u8], cells: &mut [u8], out: &mut [u8], limits: Limits) -> usize
     ensures { Lists limits.text limits.cells text.now name.old cells.old out.old
         name.new cells.new out.new result }

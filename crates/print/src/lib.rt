@@ -7,9 +7,9 @@ ghost use Rattle.print.specs.Puts.{Puts};
 use itoa::Integer;
 
 // A lent buffer, and where the next byte goes. std's `write!` into one says what is left there only where it succeeds; with std's Cursor the
-// proof did not close: of its `write` no clause says that the later one has the same lent bytes. No PartialEq: `&mut [u8]` has none.
-// What fills one answers its length and no part of it: of a buffer that an answer borrows no `ensures` says what it holds later (tried; an
-// `ensures*` does, but has to be proved by hand).
+// proof did not close: of its `write` no clause says that the later one borrows the same slice. No PartialEq: `&mut [u8]` has none.
+// What fills one answers its length and no part of it: C and the programs read the lent buffer afterwards, and each clause says what it then
+// holds, which of a buffer that an answer borrows none could say (tried).
 #[derive(Debug, Drop)]
 pub struct Buffer<'a> {
     pub bytes: &'a mut [u8],

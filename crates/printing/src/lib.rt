@@ -1,11 +1,11 @@
 // What is printed of an answer: the lines of an accepted mask, or the line of a refusal, put into a lent buffer.
+// No Display: of what `write!` leaves in a lent buffer that is too short std says nothing (see `print::Buffer`).
 #![tactic(auto)]
 
 ghost use Rattle.std.specs.Prelude.{◌≡◌, []};
 ghost use Rattle.error.specs.Error.{told_refusal};
 ghost use Rattle.header.specs.Answer.{head_of, hot_of};
-ghost use Rattle.print.specs.Output.{output, puts};
-ghost use Rattle.print.specs.Puts.{Puts};
+ghost use Rattle.print.specs.Puts.{Puts, PutsAll};
 ghost use Rattle.printing.specs.Printed.{field_text, place_text, hot_text, hotspot_text, accepted_text, printed};
 
 use error::Refusal;
@@ -55,7 +55,7 @@ fn put_hotspot_line(out: &mut Buffer<'_>, hotspot: Option<(i32, i32)>)
 
 // The four lines of an accepted mask. The answer is their length (see `print::Buffer`).
 pub fn put_accepted(out: &mut [u8], header: XbmHeaderData, ink: u64) -> usize
-    ensures { output out.new result ≡ puts (accepted_text (head_of [] header) ink) (output out.old 0) }
+    ensures { PutsAll (accepted_text (head_of [] header) ink) out.old out.new result }
 {
     let mut out = Buffer::new(out);
     put_field(&mut out, b"width ", u64::from(header.width));
@@ -68,7 +68,7 @@ pub fn put_accepted(out: &mut [u8], header: XbmHeaderData, ink: u64) -> usize
 
 // A refusal, with its place where it tells one. The answer is its length (see `print::Buffer`).
 pub fn put_refusal(out: &mut [u8], refusal: Refusal) -> usize
-    ensures { output out.new result ≡ puts (printed (told_refusal refusal) 0) (output out.old 0) }
+    ensures { PutsAll (printed (told_refusal refusal) 0) out.old out.new result }
 {
     let mut out = Buffer::new(out);
     put_field(&mut out, b"refused ", u64::from(refusal.number));

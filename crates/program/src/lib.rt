@@ -25,7 +25,7 @@ pub const OUT_SIZE: usize = 133;
 // Lists the input, of which the first n bytes of `text` are all or as much as it has room for.
 // The answer is how many bytes of `out` are the listing (see `print::Buffer`).
 // A slice in place of `text` and n would be no plainer: the array's type shows that one byte too many finds room.
-// Nor would a struct of the three buffers: the program has them one by one.
+// Nor would a struct of the three buffers: the clause would name its fields in their place.
 pub fn list_input(
     text: &[u8; TEXT_SIZE],
     n: usize,

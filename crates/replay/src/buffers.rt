@@ -28,7 +28,8 @@ fn add_digit(sum: u64, digit: u8) -> u64
     (sum * 257 + u64::from(digit)) % MODULUS
 }
 
-// The cells as the digits of a number, modulo a prime. A loop and no fold: that each sum is below the modulus did not close for a closure.
+// The cells as the digits of a number, modulo a prime. A loop: with `fold` the proof did not close, since
+// of a closure it could not be shown that each sum is below the modulus.
 pub fn sum(cells: &[u8]) -> u64
     ensures { result ≡ fold (λ sum digit. (sum * 257 + digit) % MODULUS) 0 cells.now }
 {

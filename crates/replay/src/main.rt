@@ -22,7 +22,8 @@ impl From<io::Error> for Malformed {
     }
 }
 
-// The count of cases that a list begins with, if it begins as one. Of a count that is cut the missing bytes are 0.
+// The count of cases that a list begins with, if it begins as one. Of a count that is cut the missing bytes are 0: so the
+// program prints what it printed.
 fn read_count<R: Read>(list: &mut R) -> Option<u64> {
     let mut magic = [0u8; 8];
     list.read_exact(&mut magic).ok()?;
@@ -75,7 +76,7 @@ fn replay_case<R: Read>(
 
 // Every case of the list, and then the summary.
 fn replay<R: Read>(list: &mut R, to: &impl Print) -> io::Result<()> {
-    // A list that begins otherwise has no case, and what is left of it is malformed.
+    // A list that begins otherwise has no case, and what is left of it is malformed: so the program prints what it printed.
     let cases = read_count(list).unwrap_or(0);
     let mut text = [0u8; ROOM];
     let mut tally = [0u64; NUMBERS];

@@ -4,7 +4,8 @@ ghost use Rattle.std.specs.Prelude.{◌<◌, IsTrue};
 use std::io;
 use stored::NUMBERS;
 
-// Whether a number is one that the original gives, 0 for accepted. No enum: the stored format is fixed, and any number may stand there.
+// Whether a number is one that the original gives, 0 for accepted. No enum: one of the sixteen would be
+// turned back into its number at once, to tally and to print.
 pub fn is_given(number: u64) -> bool
     ensures { IsTrue result → number < NUMBERS }
 {

@@ -38,7 +38,7 @@ fn rewrite_text(
 }
 
 // Rewrites a text, within limits: what is printed goes to the start of `out`, and the answer is its length (see `print::Buffer`).
-// Name and cells stay two parameters, here and above: buffers of two owners, and a struct of both would be made anew in each call.
+// Name and cells stay two parameters, here and above: of a struct of both each clause would have to say that it still holds the same buffers.
 pub fn rewrite(
     text: &[u8],
     name: &mut [u8],

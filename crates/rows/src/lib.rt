@@ -53,7 +53,7 @@ fn next_data(r: &mut TextReader<'_>, first: bool, table: &HexTable) -> Result<u8
 }
 
 // Fills the whole rows of `width` cells that the buffer has, as far as the picture goes. Eight cells are unpacked apart from fewer: with
-// one call for both it takes a fifth more instructions. The sides are two numbers: a struct of them would be taken apart at once.
+// one call for both a picture takes a fifth more instructions. The sides are two numbers: with a struct the clause would name both fields.
 #[tactic(auto, using(crate::proofs::Going::going_laws, lexical::proofs::Laws::bind_then), unfolding(text::specs::Leaf::give))]
 pub fn read_rows(
     r: &mut TextReader<'_>,
@@ -69,7 +69,7 @@ pub fn read_rows(
     let across = w.div_ceil(8);
     let table = HexTable::new();
     let mut first = true;
-    // By an index: of what `chunks_mut` has left only the length is known, so that nothing could be said of the cells.
+    // By an index: with `chunks_mut` the proof did not close, since of what it leaves its clauses say the length alone.
     for y in 0..rows.min(h) {
         for j in 0..across {
             let v = next_data(r, first, &table)?;

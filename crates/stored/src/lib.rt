@@ -97,7 +97,7 @@ impl fmt::Display for Difference {
 }
 
 // The number in the four bytes from i on, the least first, and 0 past a record's end.
-// A slice and i, and no Option: the clause is for any slice, a byte that is not there is 0 in it, and each caller would tell None as 0.
+// A slice and i, and no Option: the clause promises a number of any slice, with 0 for a byte that is not there; so would a caller tell None.
 pub fn number_at(bytes: &[u8], i: usize) -> u64
     ensures { result ≡ number_at bytes.now i }
 {
@@ -134,7 +134,7 @@ fn read_told(bytes: &[u8]) -> Told
     }
 }
 
-// No From: a slice of any length may be read, of which bytes are left out, so it is no conversion that loses nothing.
+// No From: the slice may have any length, and bytes past the record are dropped, where a conversion loses nothing.
 pub fn read_record(bytes: &[u8]) -> Record
     ensures { result ≡ record_in bytes.now }
 {

@@ -36,7 +36,8 @@ fn answer_told(header: Result<(XbmHeaderData, TextLocation), Refusal>, name: usi
     }
 }
 
-// No `From` here and below: both types are other crates' (the orphan rule), and in `image` it would make the reader know what C is told.
+// No `From`, here and below: both types are other crates' (the orphan rule); in `report` it would need `image`, and in `image` the reader
+// would know what C is told.
 pub fn header_told(read: HeaderAnswer) -> Summary
     ensures { result ≡ of_header (told_header [] read.answer) read.name }
 {

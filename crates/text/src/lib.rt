@@ -5,7 +5,7 @@ ghost use Rattle.std.specs.Prelude.{◌≡◌, ◌^◌, ◌<◌};
 ghost use Rattle.text.specs.Place.{byte_of, at_line_start, start, nowhere, is_sound, along_line, past_line, past_byte};
 ghost use Rattle.text.specs.TextReader.{foreign, reaching, left, next_of, moved_on, passed, passed_along, passed_line, since};
 
-// How many bytes were taken.
+// How many bytes were taken. Four types for four units, here and below: so none is taken for another; C has them as numbers.
 #[repr(C)]
 #[derive(Clone, Copy, Debug, PartialEq, Eq)]
 pub struct Byte(pub u64);
@@ -61,7 +61,7 @@ pub fn no_place() -> TextLocation
     at_line_start(0, 0)
 }
 
-// Whether the place's start is its byte less its column, and its byte reaches its line. Lent numbers are not added: a sum could wrap.
+// Whether the place's start is its byte less its column, and its byte reaches its line. Column and start are not added: their sum could wrap.
 fn is_sound(place: TextLocation) -> bool
     requires { byte_of place < 2 ^ 63 }
     ensures { result ≡ is_sound place }
@@ -81,9 +81,8 @@ fn along(place: TextLocation, n: u64) -> TextLocation
 {
     TextLocation {
         byte: Byte(place.byte.0.wrapping_add(n)),
-        line: Line(place.line.0),
         column: Column(place.column.0.wrapping_add(n)),
-        start: Start(place.start.0),
+        ..place
     }
 }
 
@@ -188,7 +187,8 @@ impl<'a> TextReader<'a> {
         &self.text[from..end]
     }
 
-    // Past the byte b, which was looked at. With the place picked by a function of its own a data byte takes a fifth more instructions.
+    // Past the byte b, which was looked at. The two calls stand here: with the place picked by a function of its own, and one store of it,
+    // `read_data_byte` takes a fifth more instructions.
     pub fn pass(&mut self, b: u8)
         ensures { self.new ≡ passed b self.old }
     {

@@ -5,7 +5,7 @@ ghost use Rattle.std.specs.Prelude.{◌≡◌, not};
 ghost use Rattle.std.specs.List.{list_all};
 ghost use Rattle.header.specs.Answer.{hot_of};
 ghost use Rattle.lexical.specs.Lexical.{is_loose};
-ghost use Rattle.print.specs.Output.{output, puts};
+ghost use Rattle.print.specs.Puts.{PutsAll};
 ghost use Rattle.data_text.specs.Packed.{packed};
 ghost use Rattle.writer.specs.Written.{whole_text, written};
 ghost use Rattle.writer.specs.Writing.{good_name, wrong, stored, writing, error_of, refusal_of, told_check, told_writing};
@@ -86,7 +86,7 @@ fn check(name: &[u8], mask: Mask<'_>) -> Result<(), XbmEncodeError>
 
 // The whole text: a header, the data bytes, and the end. The answer is its length (see `print::Buffer`).
 fn put_text(out: &mut [u8], header: &[u8], mask: Mask<'_>) -> usize
-    ensures { output out.new result ≡ puts (whole_text header.now (packed mask.entry.width mask.entry.height mask.entry.cells.now)) (output out.old 0) }
+    ensures { PutsAll (whole_text header.now (packed mask.entry.width mask.entry.height mask.entry.cells.now)) out.old out.new result }
 {
     let mut out = Buffer::new(out);
     out.put_bytes(header);

@@ -1,5 +1,5 @@
 // Rewrites the mask on standard input: reads, calls the rewriting, writes. If a read fails, nothing is written. As xbm_list, but for its
-// call, a size and its name: a function for both would take all three.
+// call, a size and its name: a function for both would take all three, and a clause of the call that its answer is within the size.
 #![tactic(auto)]
 
 use input::read_input;

@@ -1,4 +1,4 @@
--- The law `lists-input`, whose premises are the sizes in the types.
+-- What the search leaves of `list_input`.
 use Rattle.std.proofs.Common.{rules}
 use Rattle.program.proofs.Laws.{lists-input}
 use Rattle.program.proofs.list_input.Goals as goal

@@ -1,4 +1,4 @@
--- The law `rewrites-input`, whose premises are the sizes in the types.
+-- What the search leaves of `rewrite_input`.
 use Rattle.std.proofs.Common.{rules}
 use Rattle.rewriting.proofs.Input.{rewrites-input}
 use Rattle.rewriting.proofs.rewrite_input.Goals as goal
