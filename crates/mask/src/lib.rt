@@ -3,16 +3,24 @@
 
 ghost use Rattle.std.specs.Prelude.{◌≡◌};
 ghost use Rattle.std.specs.List.{list_all};
-ghost use Rattle.mask.specs.Fault.{is_cell, fault, told_fault};
+ghost use Rattle.mask.specs.Fault.{is_cell, fault, error_number, told_fault};
 
 use ink::{Mask, cell_count};
 
-// What is wrong with a mask.
+// What is wrong with a mask, by its number.
 #[derive(Clone, Copy, Debug, PartialEq, Eq)]
 pub enum MaskError {
-    ZeroSide,
-    CellCount,
-    CellValue,
+    ZeroSide = 52,
+    CellCount = 53,
+    CellValue = 54,
+}
+
+impl From<MaskError> for u32 {
+    ghost from_gives = { λ e n. n ≡ error_number e };
+
+    fn from(e: MaskError) -> u32 {
+        e as u32
+    }
 }
 
 // Ink, which is 0, or none, which is 255.

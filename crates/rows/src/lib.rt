@@ -18,7 +18,8 @@ use text::TextReader;
 // `, 0x` as one number, the first byte the lowest.
 const COMMA_TO_MARK: u32 = 0x7830_202c;
 
-// The common `, 0xHH` at once. Past the first data byte the place is known to be sound, and is not judged again.
+// The common `, 0xHH` at once: by `read_data_byte` alone a picture takes 2 to 2.6 times the instructions.
+// Past the first data byte the place is known to be sound, and is not judged again.
 #[tactic(auto, using(crate::proofs::Group::six_at))]
 fn quick_byte(r: &mut TextReader<'_>, table: &HexTable) -> Option<u8>
     requires { Sound r.old.location }

@@ -4,13 +4,11 @@ use Rattle.std.proofs.Math.Option.{Option}
 use Rattle.text.specs.Place.{pick}
 use Rattle.text.specs.Outcome.{Outcome, accepted, unplaced}
 use Rattle.lexical.specs.Token.{overlay}
-use Rattle.mask.specs.Fault.{fault}
+use Rattle.mask.specs.Fault.{fault, error_number}
 use Rattle.error.specs.declared.Refusal.{Refusal}
 use Rattle.writer.specs.Written.{written}
-use Rattle.mask.specs.declared.MaskError.{MaskError}
-use Rattle.mask.specs.declared.MaskError.TheVariants.{ZeroSide as NoSide, CellCount as OtherCount, CellValue as NoCell}
 use Rattle.writer.specs.declared.XbmEncodeError.{XbmEncodeError}
-use Rattle.writer.specs.declared.XbmEncodeError.TheVariants.{BadName, ZeroSide, CellCount, CellValue, ShortOutput}
+use Rattle.writer.specs.declared.XbmEncodeError.TheVariants.{BadName, Mask, ShortOutput}
 
 -- a space, a tab or a newline
 abbrev pub breaks : ℕ → Bool
@@ -53,17 +51,10 @@ writing name w h hot cells out = pick (eqb (wrong name w h cells) 0) (stored (wr
 
 -- ---- what the code answers
 
-abbrev pub error_of : MaskError → XbmEncodeError
-error_of NoSide = ZeroSide
-error_of OtherCount = CellCount
-error_of NoCell = CellValue
-
 -- the number of an error, by document 02
 abbrev pub number_of : XbmEncodeError → ℕ
 number_of BadName = 51
-number_of ZeroSide = 52
-number_of CellCount = 53
-number_of CellValue = 54
+number_of (Mask e) = error_number e
 number_of ShortOutput = 55
 
 abbrev pub refusal_of : XbmEncodeError → Refusal

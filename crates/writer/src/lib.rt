@@ -8,7 +8,8 @@ ghost use Rattle.lexical.specs.Lexical.{is_loose};
 ghost use Rattle.print.specs.Puts.{PutsAll};
 ghost use Rattle.data_text.specs.Packed.{packed};
 ghost use Rattle.writer.specs.Written.{whole_text, written};
-ghost use Rattle.writer.specs.Writing.{good_name, wrong, stored, writing, error_of, refusal_of, told_check, told_writing};
+ghost use Rattle.writer.specs.Writing.{good_name, wrong, stored, writing, refusal_of, told_check, told_writing};
+ghost use Rattle.writer.specs.declared.XbmEncodeError.TheVariants.{Mask};
 
 use data_text::{data_length, put_data};
 use error::Refusal;
@@ -25,25 +26,19 @@ pub const NAME_LIMIT: usize = 250;
 // Room for the header of every such name.
 const HEADER_SIZE: usize = 1536;
 
-// Why a mask is not written, by its number.
+// Why a mask is not written: its name, what is wrong with it, or an output that is too short.
 #[derive(Clone, Copy, Debug, PartialEq, Eq)]
 pub enum XbmEncodeError {
-    BadName = 51,
-    ZeroSide = 52,
-    CellCount = 53,
-    CellValue = 54,
-    ShortOutput = 55,
+    BadName,
+    Mask(MaskError),
+    ShortOutput,
 }
 
 impl From<MaskError> for XbmEncodeError {
-    ghost from_gives = { λ e r. r ≡ error_of e };
+    ghost from_gives = { λ e r. r ≡ Mask e };
 
     fn from(e: MaskError) -> XbmEncodeError {
-        match e {
-            MaskError::ZeroSide => XbmEncodeError::ZeroSide,
-            MaskError::CellCount => XbmEncodeError::CellCount,
-            MaskError::CellValue => XbmEncodeError::CellValue,
-        }
+        XbmEncodeError::Mask(e)
     }
 }
 
@@ -51,8 +46,13 @@ impl From<XbmEncodeError> for Refusal {
     ghost from_gives = { λ e r. r ≡ refusal_of e };
 
     fn from(e: XbmEncodeError) -> Refusal {
+        let number = match e {
+            XbmEncodeError::BadName => 51,
+            XbmEncodeError::Mask(e) => e.into(),
+            XbmEncodeError::ShortOutput => 55,
+        };
         Refusal {
-            number: e as u32,
+            number,
             place: None,
         }
     }
