@@ -1,12 +1,12 @@
 -- What the header's code answers, as document 01's values; and what it leaves in the lent name buffer.
 use Rattle.std.specs.Prelude.{ℕ, ◌≡◌, List, [], length, take, eqb, ℤ, Option as Spot, Some, None, Result as Answer, Ok, Err}
 use Rattle.std.specs.Borrow.{Bor}
-use Rattle.std.proofs.Math.Option.{Option, none, some}
+use Rattle.std.proofs.Math.Option.{Option}
 use Rattle.text.specs.declared.TextLocation.{TextLocation}
 use Rattle.text.specs.declared.TextReader.{TextReader}
 use Rattle.text.specs.Place.{pick, start}
 use Rattle.text.specs.Reader.{Result, ok, stop, bad, Reader, ◌>>=◌, ◌>>◌}
-use Rattle.text.specs.Outcome.{Outcome, accepted, Ended, ending_at, shown}
+use Rattle.text.specs.Outcome.{Outcome, accepted, Ended, ending_at, shown, given}
 use Rattle.text.specs.Ascii.{ascii}
 use Rattle.text.specs.Leaf.{give, fork}
 use Rattle.lexical.specs.declared.XbmPart.{XbmPart}
@@ -24,8 +24,7 @@ use Rattle.header.specs.declared.XbmHeaderData.{XbmHeaderData}
 use Rattle.header.specs.declared.NamedAnswer.{NamedAnswer}
 
 abbrev pub hot_of : Spot (ℤ × ℤ) → Option (ℤ × ℤ)
-hot_of None = none
-hot_of (Some s) = some s
+hot_of s = given s
 
 abbrev pub head_of : List ℕ → XbmHeaderData → Head
 head_of name d = record { name = name; width = d.width; height = d.height; hot = hot_of d.hotspot }
