@@ -67,11 +67,14 @@ sides_of name =
     value 1 give >>= λ d. side 110 21 d >>= λ w. define_line 2 name (ascii "_height") >>= λ d. side 120 22 d >>= λ h.
     rest_of name >>= λ s. give (record { name = name; width = w; height = h; hot = hot_of s })
 
--- the length of the name handed back: none of a refused header
+-- the name handed back, and its length: none of a refused header
+abbrev pub name_in : Result Head → List ℕ
+name_in (ok h e) = h.name
+name_in (stop c e) = []
+name_in (bad c e) = []
+
 abbrev pub name_length : Result Head → ℕ
-name_length (ok h e) = length h.name
-name_length (stop c e) = 0
-name_length (bad c e) = 0
+name_length r = length (name_in r)
 
 -- reading the header with a lent buffer, where the reader stands: its name is the start of what the buffer holds later
 pub record HeadedBy (old new : TextReader) (lent later : List ℕ) (r : Answer (XbmHeaderData × Bor (List ℕ)) (XbmDecodeError (Unit {0}))) : Type 0 where
