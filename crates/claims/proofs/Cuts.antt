@@ -18,11 +18,12 @@ use Rattle.text.specs.Outcome.{Outcome, accepted, refused, outcome}
 use Rattle.lexical.specs.Token.{overlay}
 use Rattle.symbol.specs.Symbol.{stored}
 use Rattle.header.specs.Header.{Head, header}
+use Rattle.header.specs.Answer.{name_in}
 use Rattle.header.proofs.Header.{header-local, header-firm}
 use Rattle.body.specs.Data.{tail, Log}
 use Rattle.cells.specs.Cells.{painted}
 use Rattle.cells.proofs.Kept.{at-past}
-use Rattle.image.specs.Reading.{name_in, reading}
+use Rattle.image.specs.Reading.{reading}
 use Rattle.image.proofs.Whole.{same-reading}
 use Rattle.grammar.specs.Lang.{◌·◌}
 use Rattle.grammar.specs.Grammar.{Mask, Header, Format}

@@ -8,8 +8,9 @@ use Rattle.text.specs.Reader.{Result, ok, stop, bad, then, ◌>>=◌}
 use Rattle.text.specs.Leaf.{give}
 use Rattle.text.specs.Outcome.{Outcome, outcome}
 use Rattle.header.specs.Header.{Head, header}
+use Rattle.header.specs.Answer.{name_in}
 use Rattle.rows.specs.Rows.{whole}
-use Rattle.image.specs.Reading.{picture, name_in, cells_in, reading}
+use Rattle.image.specs.Reading.{picture, cells_in, reading}
 use Rattle.grammar.specs.Grammar.{Mask, Header}
 use Rattle.grammar.proofs.Fits.{Any}
 use Rattle.grammar.specs.Devices.{head_of, made}

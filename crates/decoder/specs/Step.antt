@@ -1,11 +1,11 @@
 -- One call for the next data byte: the answer, and the decoder after it.
-use Rattle.std.specs.Prelude.{ℕ, ◌+◌, Bool, true, List, eqb, ltb, Option as Given, Some, None, Result as Answer, Ok, Err}
+use Rattle.std.specs.Prelude.{ℕ, ◌+◌, Bool, true, List, eqb, ltb, Option as Given, Result as Answer, Ok, Err}
 use Rattle.std.proofs.Math.Option.{Option, none, some}
 use Rattle.text.specs.declared.TextLocation.{TextLocation}
 use Rattle.text.specs.Place.{pick, is_foreign}
 use Rattle.text.specs.Reader.{end_of, Reader, ◌>>=◌, ◌>>◌}
 use Rattle.text.specs.Leaf.{give}
-use Rattle.text.specs.Outcome.{Outcome, accepted, refused, unplaced, outcome}
+use Rattle.text.specs.Outcome.{Outcome, accepted, refused, unplaced, outcome, given}
 use Rattle.lexical.specs.Lexical.{number}
 use Rattle.body.specs.Data.{item, trailer, bytes_of}
 use Rattle.decoder.specs.declared.XbmStreamDecoder.{XbmStreamDecoder}
@@ -47,14 +47,9 @@ step_of t d = record {
   decoder = pick (foreign t d) d (placed_at d (spent d) (end_of (called d t d.location)));
 }
 
--- a data byte of the code, or none
-abbrev pub byte_given : Given ℕ → Option ℕ
-byte_given (Some b) = some b
-byte_given None = none
-
 -- an answer of the code, where the decoder then stands: the byte, none left, or the refusal's number and place
 abbrev pub told_next : Answer (Given ℕ) StreamError → TextLocation → Outcome (Option ℕ)
-told_next (Ok b) e = accepted (byte_given b)
+told_next (Ok b) e = accepted (given b)
 told_next (Err (Parse part)) e = refused (number part) e
 told_next (Err Foreign) e = unplaced 9
 

@@ -1,12 +1,12 @@
 -- What the header's code answers, as document 01's values; and what it leaves in the lent name buffer.
 use Rattle.std.specs.Prelude.{ℕ, ◌≡◌, List, [], length, take, eqb, ℤ, Option as Spot, Some, None, Result as Answer, Ok, Err}
 use Rattle.std.specs.Borrow.{Bor}
-use Rattle.std.proofs.Math.Option.{Option, none, some}
+use Rattle.std.proofs.Math.Option.{Option}
 use Rattle.text.specs.declared.TextLocation.{TextLocation}
 use Rattle.text.specs.declared.TextReader.{TextReader}
 use Rattle.text.specs.Place.{pick, start}
 use Rattle.text.specs.Reader.{Result, ok, stop, bad, Reader, ◌>>=◌, ◌>>◌}
-use Rattle.text.specs.Outcome.{Outcome, accepted, Ended, ending_at, shown}
+use Rattle.text.specs.Outcome.{Outcome, accepted, Ended, ending_at, shown, given}
 use Rattle.text.specs.Ascii.{ascii}
 use Rattle.text.specs.Leaf.{give, fork}
 use Rattle.lexical.specs.declared.XbmPart.{XbmPart}
@@ -24,8 +24,7 @@ use Rattle.header.specs.declared.XbmHeaderData.{XbmHeaderData}
 use Rattle.header.specs.declared.NamedAnswer.{NamedAnswer}
 
 abbrev pub hot_of : Spot (ℤ × ℤ) → Option (ℤ × ℤ)
-hot_of None = none
-hot_of (Some s) = some s
+hot_of s = given s
 
 abbrev pub head_of : List ℕ → XbmHeaderData → Head
 head_of name d = record { name = name; width = d.width; height = d.height; hot = hot_of d.hotspot }
@@ -68,11 +67,14 @@ sides_of name =
     value 1 give >>= λ d. side 110 21 d >>= λ w. define_line 2 name (ascii "_height") >>= λ d. side 120 22 d >>= λ h.
     rest_of name >>= λ s. give (record { name = name; width = w; height = h; hot = hot_of s })
 
--- the length of the name handed back: none of a refused header
+-- the name handed back, and its length: none of a refused header
+abbrev pub name_in : Result Head → List ℕ
+name_in (ok h e) = h.name
+name_in (stop c e) = []
+name_in (bad c e) = []
+
 abbrev pub name_length : Result Head → ℕ
-name_length (ok h e) = length h.name
-name_length (stop c e) = 0
-name_length (bad c e) = 0
+name_length r = length (name_in r)
 
 -- reading the header with a lent buffer, where the reader stands: its name is the start of what the buffer holds later
 pub record HeadedBy (old new : TextReader) (lent later : List ℕ) (r : Answer (XbmHeaderData × Bor (List ℕ)) (XbmDecodeError (Unit {0}))) : Type 0 where

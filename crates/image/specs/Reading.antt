@@ -1,6 +1,6 @@
 -- The reading of pixels from a text: what it answers, and what the two lent buffers hold after it. All contracts above the header
 -- cite this.
-use Rattle.std.specs.Prelude.{◌≡◌, ℕ, ◌≤◌, true, List, [], length, take, Result as Answer, Ok, Err}
+use Rattle.std.specs.Prelude.{◌≡◌, ℕ, ◌≤◌, true, List, length, take, Result as Answer, Ok, Err}
 use Rattle.text.specs.declared.TextLocation.{TextLocation}
 use Rattle.text.specs.Place.{start}
 use Rattle.text.specs.Reader.{Result, ok, stop, bad, Reader, ◌>>=◌}
@@ -13,7 +13,7 @@ use Rattle.error.specs.Error.{image_refusal, told_refusal}
 use Rattle.symbol.specs.Symbol.{stored}
 use Rattle.header.specs.declared.XbmHeaderData.{XbmHeaderData}
 use Rattle.header.specs.Header.{Head, header}
-use Rattle.header.specs.Answer.{head_of}
+use Rattle.header.specs.Answer.{head_of, name_in}
 use Rattle.body.specs.Data.{log_of}
 use Rattle.cells.specs.Cells.{painted, count}
 use Rattle.rows.specs.Rows.{whole}
@@ -22,12 +22,6 @@ use Rattle.header.specs.declared.NamedAnswer.{NamedAnswer}
 -- the header and the data bytes of a text, for a buffer of n cells, with a limit on the width's symbol
 unfoldable pub picture : ℕ → ℕ → Reader (Head × List ℕ)
 picture limit n = header limit >>= λ h. whole h.width h.height n >>= λ l. give (h, l)
-
--- the name handed back: only a header refusal empties it
-abbrev pub name_in : Result Head → List ℕ
-name_in (ok h e) = h.name
-name_in (stop c e) = []
-name_in (bad c e) = []
 
 -- the cells of every data byte read, where they fall in a whole row of the buffer; the rest as lent
 abbrev pub cells_in : Result Head → List ℕ → List ℕ → List ℕ

@@ -1,5 +1,5 @@
 -- The lines of a header: an integer's, one whose symbol is known, the width line, the line that opens the array.
-use Rattle.std.specs.Prelude.{ℕ, ◌+◌, List, eqb, ℤ}
+use Rattle.std.specs.Prelude.{ℕ, ◌+◌, List, eqb, ℤ, Result as Answer}
 use Rattle.std.proofs.Math.Option.{Option, none, some}
 use Rattle.text.specs.Ascii.{ascii}
 use Rattle.text.specs.Place.{pick}
@@ -7,6 +7,7 @@ use Rattle.text.specs.Reader.{Reader, ◌>>=◌, ◌>>◌}
 use Rattle.text.specs.Leaf.{give, want, need, fork}
 use Rattle.lexical.specs.Lexical.{is_loose, fixed, gap, line_end}
 use Rattle.lexical.specs.Token.{token}
+use Rattle.integer.specs.declared.Fault.{Fault}
 use Rattle.integer.specs.Decimal.{parse_u32, parse_i32, value_in, fault_in}
 use Rattle.symbol.specs.Symbol.{hash_define, end_width, before}
 
@@ -19,11 +20,14 @@ abbrev pub value : {A : Type 0} → ℕ → (List ℕ → Reader A) → Reader A
 value c f = gap c >> token is_loose c token_limit >>= λ w. line_end c >> f w
 
 -- an integer of 32 bits: where the token is none, c and the number of its fault are told
+abbrev pub parsed : {A : Type 0} → ℕ → Answer A Fault → Reader A
+parsed c r = need (c + fault_in r) (value_in r)
+
 abbrev pub unsigned : ℕ → List ℕ → Reader ℕ
-unsigned c w = need (c + fault_in (parse_u32 w)) (value_in (parse_u32 w))
+unsigned c w = parsed c (parse_u32 w)
 
 abbrev pub signed : ℕ → List ℕ → Reader ℤ
-signed c w = need (c + fault_in (parse_i32 w)) (value_in (parse_i32 w))
+signed c w = parsed c (parse_i32 w)
 
 unfoldable pub positive : ℕ → Option ℕ
 positive n = pick (eqb n 0) none (some n)
