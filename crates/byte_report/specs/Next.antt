@@ -3,12 +3,12 @@ use Rattle.std.specs.Prelude.{ℕ, List, [], ◌∷◌}
 use Rattle.std.proofs.Math.Option.{Option, none, some}
 use Rattle.text.specs.declared.TextLocation.{TextLocation}
 use Rattle.text.specs.Place.{nowhere}
-use Rattle.text.specs.Outcome.{Outcome, accepted, refused, unplaced, number_told}
+use Rattle.text.specs.Outcome.{Outcome, accepted, refused, unplaced, outcome_number}
 use Rattle.decoder.specs.declared.XbmStreamDecoder.{XbmStreamDecoder}
 
 -- 0 where the call is accepted, else the number of the refusal
 abbrev pub next_number : Outcome (Option ℕ) → ℕ
-next_number a = number_told a
+next_number a = outcome_number a
 
 -- the place told, and the data byte
 abbrev pub reported : TextLocation → ℕ → List ℕ

@@ -1,12 +1,12 @@
 -- What `xbm_write` answers in numbers, and the output after it.
 use Rattle.std.specs.Prelude.{◌≡◌, ℕ, List, ℤ}
-use Rattle.text.specs.Outcome.{Outcome, accepted, refused, unplaced, number_told}
+use Rattle.text.specs.Outcome.{Outcome, accepted, refused, unplaced, outcome_number}
 use Rattle.report.specs.Report.{hot_given}
 use Rattle.writer.specs.Writing.{Writing, writing}
 
 -- 0, or the refusal's number
 abbrev pub write_number : Outcome ℕ → ℕ
-write_number a = number_told a
+write_number a = outcome_number a
 
 -- the text's length, or 0 of a refusal
 abbrev pub write_length : Outcome ℕ → ℕ
