@@ -25,7 +25,8 @@ pub fn hex_value(b: u8) -> Option<u8>
     }
 }
 
-// The same of all bytes, by a table: call `new` once, above a loop, and lend it down. By `hex_value` a picture takes 4 to 12 % more instructions.
+// The same of all bytes, by a table: call `new` once, above a loop, and lend it down. By `hex_value` a picture takes 4 to 12 % more
+// instructions.
 // It holds bytes, 16 for no digit: a table of options takes 700 more instructions to make, and a twelfth more for each digit.
 #[derive(Clone, Copy, Debug, PartialEq, Eq)]
 pub struct HexTable {

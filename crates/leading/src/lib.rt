@@ -9,8 +9,9 @@ ghost use Rattle.leading.specs.Line.{line_of, line_rest};
 use lexical::XbmPart;
 use text::TextReader;
 
-// Where a line ends: at its newline, or with the text. A place in any case, by index: what remains as a slice takes six more instructions
-// a line (a quarter more where lines have one to five bytes), `position` a fifth more a byte, and an Option two fifths.
+// Where a line ends: at its newline, or with the text. Takes text and place, and answers a place in any case: with what remains as a slice a
+// line takes six more instructions (a quarter more where lines have one to five bytes), with the crate `memchr` thirty more (long lines far
+// fewer), with `position` a byte takes a fifth more, with an Option answered two fifths.
 fn line_end(text: &[u8], from: usize) -> usize
     ensures { result ≡ from + length (line_of (drop from text.now)) }
 {

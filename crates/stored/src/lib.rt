@@ -97,7 +97,7 @@ impl fmt::Display for Difference {
 }
 
 // The number in the four bytes from i on, the least first, and 0 past a record's end.
-// A slice and i, and no Option: the clause promises a number of any slice, with 0 for a byte that is not there; so would a caller tell None.
+// A slice and i, and no Option: the clause promises a number of any slice, 0 for a byte that is not there, as which a caller would tell None.
 pub fn number_at(bytes: &[u8], i: usize) -> u64
     ensures { result ≡ number_at bytes.now i }
 {
