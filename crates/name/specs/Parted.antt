@@ -1,15 +1,17 @@
 -- The name handed back as a part of the lent name buffer, and what the buffer holds later.
-use Rattle.std.specs.Prelude.{◌≡◌, ℕ, List, ◌++◌, length, take, drop}
+use Rattle.std.specs.Prelude.{◌≡◌, ℕ, List, [], ◌++◌, length, take, drop}
 use Rattle.text.specs.Place.{start}
-use Rattle.text.specs.Reader.{Result}
+use Rattle.text.specs.Reader.{Result, ok, stop, bad}
 use Rattle.lexical.specs.Token.{overlay}
 use Rattle.symbol.specs.Symbol.{stored}
 use Rattle.header.specs.Header.{Head, header}
-use Rattle.header.specs.Answer.{name_in, name_length}
+use Rattle.header.specs.Answer.{name_length}
 
 -- the name handed back: an accepted header's, and none of a refused one
 abbrev pub handed : Result Head → List ℕ
-handed r = name_in r
+handed (ok h e) = h.name
+handed (stop c e) = []
+handed (bad c e) = []
 
 -- the header of a text, read with a lent name buffer
 abbrev pub header_for : List ℕ → List ℕ → Result Head
