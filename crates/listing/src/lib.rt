@@ -12,6 +12,7 @@ use ink::Mask;
 use printing::{put_accepted, put_refusal};
 
 // What is listed of a text, within limits: the header and the ink of an accepted mask, or the refusal.
+// Header and ink stay a pair: a struct of them would be made here and taken apart in `put_answer`.
 #[tactic(auto, unfolding(crate::specs::Listing::listed_within))]
 fn list_text(
     text: &[u8],
