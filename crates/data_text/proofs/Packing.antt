@@ -1,6 +1,6 @@
 -- What a step of the code says of a packed byte.
 use mathlib.Core.Path.{◌≡◌}
-use Prim.Native.Nat.{ℕ, suc, ◌+◌, ◌-◌, ◌*◌, ◌/◌, ◌%◌, ◌^◌, ◌≤◌, ◌<◌}
+use Prim.Native.Nat.{ℕ, suc, ◌+◌, ◌-◌, ◌*◌, ◌/◌, ◌%◌, ◌^◌, ◌≤◌, ◌<◌, min}
 use native.Mathlib.Omega.{arith}
 use native.Mathlib.Nat.{mul-le-mul_left, mul_left_comm, div-add-mod', pow-le-pow_right}
 use mir.Syntax.{w8}
@@ -37,3 +37,9 @@ first_near w k {row} h e =
     let m : k / row * (8 * row) ≡ 8 * (k / row * row) = mul_left_comm (k / row) 8 row in
     let d : k / row * row + k % row ≡ k = div-add-mod' k row in
     omega arith
+
+-- where eight cells are left of a row or more, its byte has eight
+pub eight_cells : (cells : List ℕ) (c x : ℕ) {v : ℕ} → 8 ≤ x → v ≡ bits cells c 8 → v ≡ bits cells c (min 8 x)
+eight_cells cells c x h e = let m : min 8 x ≡ 8 = omega arith in rw m e
+
+pub ruleset packed_laws = (first_near, eight_cells)

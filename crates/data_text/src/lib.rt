@@ -16,8 +16,8 @@ fn bit_at(cells: &[u8], c: usize) -> u8
     ensures { result ≡ bit_at cells.now c }
 {
     match cells.get(c) {
-        Some(0) => 1,
-        _ => 0,
+        Some(cell) => u8::from(*cell == 0),
+        None => 0,
     }
 }
 
@@ -36,8 +36,8 @@ fn pack(cells: &[u8], start: usize, n: usize) -> u8
     v
 }
 
-// Data byte k of a mask.
-#[tactic(auto, using(crate::proofs::Packing::first_near), unfolding(crate::specs::Packed::packed_at))]
+// Data byte k of a mask. Eight cells are packed by a call of their own, whose loop is unrolled: a row has most of its bytes so.
+#[tactic(auto, using(crate::proofs::Packing::packed_laws), unfolding(crate::specs::Packed::packed_at))]
 fn packed_byte(mask: Mask<'_>, k: usize) -> u8
     requires { (0 < mask.width) × (k + 8 < 2 ^ 61) }
     ensures { result ≡ packed_at mask.entry.width mask.entry.cells.now k }
@@ -45,7 +45,13 @@ fn packed_byte(mask: Mask<'_>, k: usize) -> u8
     let width = mask.width as usize;
     let row = width.div_ceil(8);
     let u = k % row * 8;
-    pack(mask.cells, k / row * width + u, (width - u).min(8))
+    let start = k / row * width + u;
+    let left = width - u;
+    if left < 8 {
+        pack(mask.cells, start, left)
+    } else {
+        pack(mask.cells, start, 8)
+    }
 }
 
 // A hex digit in lower case. By hand: of what std's `{:x}` writes to a lent buffer its clauses say nothing where the write fails, and with
