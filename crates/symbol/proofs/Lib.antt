@@ -2,4 +2,5 @@
 pub mod SymbolLaws
 pub mod Ends
 pub mod Taken
+pub mod Stored
 pub mod Laws

@@ -1,8 +1,9 @@
 // The width's symbol, which has the name in it: what precedes it, and its bytes, stored in a lent buffer.
 #![tactic(auto)]
 
-ghost use Rattle.std.specs.Prelude.{◌≡◌, length};
+ghost use Rattle.std.specs.Prelude.{◌≡◌, ◌≤◌, length};
 ghost use Rattle.lexical.specs.Reads.{Reads};
+ghost use Rattle.lexical.specs.Token.{overlay};
 ghost use Rattle.symbol.specs.Symbol.{opening, Symboled};
 
 use leading::skip_non_define_lines;
@@ -29,6 +30,17 @@ fn read_opening(r: &mut TextReader<'_>) -> Result<(), XbmPart>
     read_whitespace_gap(r, XbmPart::Width)
 }
 
+// The bytes of `taken` at a buffer's start. By hand: with `copy_from_slice` the library for C needs `memmove` from outside.
+#[tactic(auto, using(crate::proofs::Stored::storing_laws))]
+fn store(taken: &[u8], name: &mut [u8])
+    requires { length taken.now ≤ length name.now }
+    ensures { name.new ≡ overlay taken.now name.old }
+{
+    for (i, b) in taken.iter().enumerate() {
+        name[i] = *b;
+    }
+}
+
 // The width's symbol, stored in `name`, also what was taken of one that is too long; the answer is the name in it, a part of the text.
 #[tactic(auto, using(crate::proofs::Laws::symbol_laws), unfolding(text::specs::Leaf::want, crate::specs::Symbol::width_symbol, crate::specs::Symbol::before))]
 pub fn read_width_symbol<'a>(r: &mut TextReader<'a>, name: &mut [u8]) -> Result<&'a [u8], XbmPart>
@@ -38,6 +50,6 @@ pub fn read_width_symbol<'a>(r: &mut TextReader<'a>, name: &mut [u8]) -> Result<
     let start = r.loc();
     let symbol = read_until_whitespace(r, name.len(), XbmPart::Width);
     let taken = r.taken_since(start);
-    name[..taken.len()].copy_from_slice(taken);
+    store(taken, name);
     symbol?.strip_suffix(b"_width").ok_or(XbmPart::Width)
 }
