@@ -2,13 +2,25 @@
 #![tactic(auto)]
 
 ghost use Rattle.std.specs.Prelude.{◌≡◌};
+ghost use Rattle.lexical.specs.Lexical.{byte, is};
 ghost use Rattle.lexical.specs.Reads.{Reads};
 ghost use Rattle.body.specs.Data.{item, brace, closing, trailer, bytes_of};
 ghost use Rattle.body.specs.Code.{separator, ended};
 
 use hexadecimal::read_hex_byte;
-use lexical::{XbmPart, read_byte_of, read_fixed_string, read_optional_whitespace};
+use lexical::{XbmPart, read_fixed_string, read_optional_whitespace};
 use text::TextReader;
+
+// A comma, the next byte.
+#[tactic(auto, unfolding(text::specs::Leaf::one, lexical::specs::Lexical::byte))]
+fn read_comma(r: &mut TextReader<'_>) -> Result<(), XbmPart>
+    ensures { Reads (byte 6 (is 44)) r.old r.new result }
+{
+    match r.next() {
+        Some(b',') => Ok(()),
+        _ => Err(XbmPart::Data),
+    }
+}
 
 // What stands between two data bytes: a comma after loose space. Mostly the comma stands there at once; without that first try a data
 // byte takes a tenth more instructions.
@@ -21,7 +33,7 @@ fn read_separator(r: &mut TextReader<'_>) -> Result<(), XbmPart>
         return Ok(());
     }
     read_optional_whitespace(r);
-    read_byte_of(r, |b| b == b',', XbmPart::Data)
+    read_comma(r)
 }
 
 // One data byte. Before the first of a picture stands no separator. A closure in place of `first` would be no plainer, and two functions

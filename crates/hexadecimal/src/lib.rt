@@ -2,12 +2,12 @@
 #![tactic(auto)]
 
 ghost use Rattle.std.specs.Prelude.{◌≡◌};
-ghost use Rattle.lexical.specs.Lexical.{number};
+ghost use Rattle.lexical.specs.Lexical.{number, byte};
 ghost use Rattle.lexical.specs.Reads.{Reads};
 ghost use Rattle.hexadecimal.specs.Hex.{value_of, hex_table, is_mark, hex_digit, hex_start, hex_byte};
 
 use hex_table::HEX;
-use lexical::{XbmPart, read_byte_of, read_fixed_string};
+use lexical::{XbmPart, read_fixed_string};
 use text::TextReader;
 
 mod hex_table;
@@ -70,13 +70,24 @@ fn is_mark(b: u8) -> bool
     b == b'x' || b == b'X'
 }
 
+// `x` or `X`, the next byte.
+#[tactic(auto, unfolding(text::specs::Leaf::one, lexical::specs::Lexical::byte))]
+fn read_mark(r: &mut TextReader<'_>, part: XbmPart) -> Result<(), XbmPart>
+    ensures { Reads (byte (number part) is_mark) r.old r.new result }
+{
+    match r.next() {
+        Some(b) if is_mark(b) => Ok(()),
+        _ => Err(part),
+    }
+}
+
 // `0` and then `x` or `X`.
 #[tactic(auto, using(lexical::proofs::Laws::bind_then), unfolding(text::specs::Leaf::one, lexical::specs::Lexical::byte, crate::specs::Hex::hex_start))]
 fn read_hex_start(r: &mut TextReader<'_>, part: XbmPart) -> Result<(), XbmPart>
     ensures { Reads (hex_start (number part)) r.old r.new result }
 {
     read_fixed_string(r, b"0", part)?;
-    read_byte_of(r, is_mark, part)
+    read_mark(r, part)
 }
 
 // Read a hex-encoded byte (e.g.: 0xA1).

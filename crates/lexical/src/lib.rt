@@ -62,8 +62,8 @@ fn skip_while<F: Fn(u8) -> bool>(r: &mut TextReader<'_>, class: F)
     }
 }
 
-// One byte of a class.
-pub fn read_byte_of<F: Fn(u8) -> bool>(
+// One byte of a class. Not public: a public function asks nothing of its caller, and this asks that the closure can be called.
+fn read_byte_of<F: Fn(u8) -> bool>(
     r: &mut TextReader<'_>,
     class: F,
     part: XbmPart,
