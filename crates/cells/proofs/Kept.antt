@@ -23,9 +23,13 @@ log-length (suc k) f t i = go (item f t i) (λ e. log-length k false t e)
     go (stop c e) h = omega arith
     go (bad c e) h = omega arith
 
+-- a cell past m whole rows is no cell of theirs
+past : (w m c : ℕ) → 0 < w → m * w ≤ c → m ≤ c / w
+past w m c hw h = (le-div_iff_mul-le hw).1 h
+
 pub kept : (w h n : ℕ) (f : Bool) (t : List ℕ) (i : TextLocation) (c x : ℕ) → 0 < w → min (n / w) h * w ≤ c → cell w (log_of (count w h n) f t i) c x ≡ x
 unfolding cell
 kept w h n f t i c x hw l =
     rw
     (at-past (log_of (count w h n) f t i) (byte_for w c)
-    (omega (arith, log-length (count w h n) f t i, mul-le-mul_right (row_bytes w) ((le-div_iff_mul-le hw).1 l))))
+    (omega (arith, log-length (count w h n) f t i, mul-le-mul_right (row_bytes w) (past w (min (n / w) h) c hw l))))

@@ -22,6 +22,10 @@ use Rattle.lexical.specs.Class.{Decides, Judged}
 use Rattle.lexical.specs.Lexical.{number, is, byte, while, skip, fixed}
 use Rattle.lexical.specs.Reads.{Reads}
 
+-- a part's number
+pub number_small : (part : XbmPart) → number part ≤ 8
+number_small part = grind arith
+
 -- one reading after another, as an equation
 pub bind_then : {A B : Type 0} (p : Reader A) (f : A → Reader B) (t : List ℕ) (i : TextLocation) → (p >>= f) t i ≡ then (p t i) (λ a e. f a t e)
 unfolding ◌>>=◌

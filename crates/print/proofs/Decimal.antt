@@ -22,6 +22,18 @@ digits-large : (k n : ℕ) → 10 ≤ n → digits (suc k) n ≡ digits k (n / 1
 unfolding digits
 digits-large k n h = rw (le-ltb n 10 h)
 
+-- more digits allowed than needed change nothing
+digits_more : (k n : ℕ) → n < 10 ^ suc k → digits (suc k) n ≡ digits (suc (suc k)) n
+unfolding digits
+digits_more zero n h = rw (lt-ltb n 10 h)
+digits_more (suc k) n h = rw (digits_more k (n / 10) (omega (arith, pow-suc 10 (suc k))))
+
+pub decimal-small : (n : ℕ) → n < 10 → (48 + n) ∷ [] ≡ decimal n
+decimal-small n h = sym (digits-small 19 n h)
+
+pub decimal-large : (n : ℕ) → 10 ≤ n → n < 2 ^ 64 → decimal (n / 10) ++ ((48 + n % 10) ∷ []) ≡ decimal n
+decimal-large n h l = rw (digits-large 19 n h, digits_more 18 (n / 10) (omega arith))
+
 -- they are what the library prints
 pub decimal-printed : (n : ℕ) → n < 2 ^ 64 → Printed.decimal n ≡ decimal n
 decimal-printed n h =

@@ -51,9 +51,13 @@ puts-room (b ∷ w) s k (suc n) h e =
     (puts-room w (set s k b) (k + 1) n (omega (arith, length-set s k b)) (omega (arith, e, length-set s k b))
     ∙ rw (i, add-one, take-suc-set s k b l, drop-set-lt (k + suc n) s k b (omega arith)) (ap (λ (x : List ℕ). output x (k + suc n)) (append_assoc (take k s) (b ∷ []) (take n w ++ drop (k + suc n) s))))
 
+-- a word that has room stands where it was put, and what follows it is as lent
+puts-on : (w s : List ℕ) (n : ℕ) → n + length w ≤ length s → puts w (output s n) ≡ output (take n s ++ (w ++ drop (n + length w) s)) (n + length w)
+puts-on w s n h = puts-room w s n (length w) (omega arith) (omega arith) ∙ rw take-length
+
 -- from the start of a buffer
 pub puts-start : (w s : List ℕ) → length w ≤ length s → puts w (output s 0) ≡ output (w ++ drop (length w) s) (length w)
-puts-start w s h = let z : 0 + length w ≡ length w = omega arith in puts-room w s 0 (length w) (omega arith) (omega (arith, h)) ∙ rw (z, take-length)
+puts-start w s h = let z : 0 + length w ≡ length w = omega arith in puts-on w s 0 (omega arith) ∙ rw z
 
 -- what the code copies, from a place that may be past the end
 pub puts_copied : (w s : List ℕ) (k : ℕ) {from n : ℕ} {q : List ℕ} → from ≡ min k (length s) → n ≡ min (length w) (length s - from) → q ≡ take n w

@@ -180,6 +180,9 @@ module _ (w h : ℕ) (r₀ : TextReader) (lent p : List ℕ) (r : TextReader) (f
   in_row : 8 * j < w
   in_row = omega (arith, bytes)
 
+  pub left-fits : 8 * j ≤ w
+  left-fits = omega (arith, in_row)
+
   pub going_part : {r' : TextReader} {m : Answer ℕ XbmPart} {v n : ℕ} {c : List ℕ} → Reads (item f) r r' m → m ≡ Ok v → n ≡ min 8 (w - 8 * j)
       → c ≡ unpacked v (take (y * w + 8 * j + n - (y * w + 8 * j)) (drop (y * w + 8 * j) p))
       → Going w h r₀ lent (take (y * w + 8 * j) p ++ (c ++ drop (y * w + 8 * j + n - (y * w + 8 * j)) (drop (y * w + 8 * j) p))) r' false (y * a + (j + 1))

@@ -1,5 +1,5 @@
 -- The theorems about what specs/Alike.antt defines.
-use Rattle.std.specs.Prelude.{ℕ, ◌≤◌, ◌<◌, ◌≡◌, ◌+◌, ◌*◌, ◌⊎◌, refl, Bool, true, false, Result, Ok}
+use Rattle.std.specs.Prelude.{ℕ, ◌≤◌, ◌<◌, ◌≡◌, ◌+◌, ◌*◌, ◌⊎◌, refl, Bool, true, false, Result, Ok, Err}
 use Rattle.std.proofs.Common.{arith, inl, inr, eqb-true}
 use Rattle.std.proofs.Math.Decide.{dec_lt}
 use Rattle.std.proofs.lemmas.Bool.Decides.{nat_tests}
@@ -9,6 +9,7 @@ use Rattle.stored.specs.declared.Spot.{Spot}
 use Rattle.stored.specs.declared.Symbol.{Symbol}
 use Rattle.stored.specs.declared.Told.{Told}
 use Rattle.stored.specs.declared.Difference.{Difference}
+use Rattle.stored.specs.declared.Difference.TheVariants.{Number, Place, Sides, Hotspot, Name, Cells}
 use Rattle.stored.specs.Record.{counts_as, same_place, same_sides, same_hotspot, same_name, unless, verdict_on}
 use Rattle.stored.specs.Alike.{Counts, height, other, width, x-hot, y-hot, Alike}
 
@@ -48,16 +49,37 @@ step : (same : Bool) (d : Difference) (next : Result (Unit {0}) Difference) → 
 step true d next q = (refl, q)
 step false d next q = let z : ⊥ = cc in absurd z
 
+numbered : (m n : ℕ) (w : Result (Unit {0}) Difference) → unless (counts_as m n) Number w ≡ Ok tt → Counts m n × (w ≡ Ok tt)
+numbered m n w q = let (h, k) = step _ _ _ q in (counted m n h, k)
+
+not-number : Err Number ≡ Ok (tt {0}) → ⊥
+not-number e = cc
+
+not-place : Err Place ≡ Ok (tt {0}) → ⊥
+not-place e = cc
+
+not-sides : Err Sides ≡ Ok (tt {0}) → ⊥
+not-sides e = cc
+
+not-hotspot : Err Hotspot ≡ Ok (tt {0}) → ⊥
+not-hotspot e = cc
+
+not-name : Err Name ≡ Ok (tt {0}) → ⊥
+not-name e = cc
+
+not-cells : Err Cells ≡ Ok (tt {0}) → ⊥
+not-cells e = cc
+
 pub same_alike : (a b : Told) → verdict_on a b ≡ Ok tt → Alike a b
 same_alike a b q =
-    let (number, q1) = step _ _ _ q in
+    let (number, q1) = numbered _ _ _ q in
     let (place, q2) = step _ _ _ q1 in
     let (sides, q3) = step _ _ _ q2 in
     let (hotspot, q4) = step _ _ _ q3 in
     let (name, q5) = step _ _ _ q4 in
     let (cells, q6) = step _ _ _ q5 in
     record {
-      number = counted _ _ number;
+      number = number;
       place = one_place _ _ place;
       sides = one_sides _ _ sides;
       hotspot = one_hotspot _ _ hotspot;
