@@ -100,13 +100,15 @@ pub fn read_xbm_header(text: &[u8], name: &mut [u8]) -> HeaderAnswer
     ensures { Headed text.now name.old name.new result }
 {
     let mut r = TextReader::new(text);
-    match read_header(&mut r, name) {
+    let read = read_header(&mut r, name);
+    let place = r.loc();
+    match read {
         Ok((header, symbol)) => HeaderAnswer {
-            answer: Ok((header, r.loc())),
+            answer: Ok((header, place)),
             name: symbol.len(),
         },
         Err(e) => HeaderAnswer {
-            answer: Err(e.at(r.loc())),
+            answer: Err(e.at(place)),
             name: 0,
         },
     }
