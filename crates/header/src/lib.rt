@@ -101,6 +101,7 @@ pub fn read_xbm_header(text: &[u8], name: &mut [u8]) -> HeaderAnswer
 {
     let mut r = TextReader::new(text);
     let read = read_header(&mut r, name);
+    // Before the arms: in each of them it makes the refusal of an empty text half as long again.
     let place = r.loc();
     match read {
         Ok((header, symbol)) => HeaderAnswer {

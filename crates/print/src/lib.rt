@@ -26,8 +26,8 @@ impl<'a> Buffer<'a> {
         Buffer { bytes, at: 0 }
     }
 
-    // The bytes of `s`; those for which no room is left are dropped. One by one: with `copy_from_slice` the library for C needs `memcpy` and
-    // `memmove` from outside, and a data byte, which is put in two words, takes four times as long.
+    // The bytes of `s`; those for which no room is left are dropped. One by one, each with its test: with `copy_from_slice` the library for C
+    // needs `memcpy` and `memmove` from outside; with as many as find room, by an index, `memcpy`, and a data byte takes 1.2 to 1.8 times as long.
     #[tactic(auto, using(crate::proofs::Putting::putting_laws))]
     pub fn put_bytes(&mut self, s: &[u8])
         ensures { Puts s.now self.old self.new }
